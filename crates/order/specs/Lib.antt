@@ -1,0 +1,3 @@
+pub mod Number
+pub mod Pick
+pub mod Total

@@ -1,0 +1,91 @@
+// The float calls that Rattle lacks, by document 01's rules: the infinity, `abs`, `min`, `max` and `total_cmp`.
+// Each answers on every f64. The laws of the order and of rounding, which the other layers cite, stand in proofs/.
+ghost use mathlib.Core.Path.{_≡_};
+ghost use Rattle.order.specs.Number.{infinity};
+ghost use Rattle.order.specs.Pick.{magnitude, lesser, greater};
+ghost use Rattle.order.specs.Total.{totalLess, lessNumber, lessZero, minusZero};
+
+// +inf, which no literal can be.
+pub fn infinity() -> f64
+    ensures { λ r. ⌜ r ≡ infinity ⌝ }
+{
+    1.0 / 0.0
+}
+
+// |x|; a NaN stays one.
+pub fn magnitude(x: f64) -> f64
+    ensures { λ r. ⌜ r ≡ magnitude x ⌝ }
+{
+    if x < 0.0 {
+        return -x;
+    }
+    if x == 0.0 {
+        return 0.0;
+    }
+    x
+}
+
+// The lesser of the running number and x: a NaN yields the other, and of numerically equal ones the running one is kept.
+pub fn lesser(run: f64, x: f64) -> f64
+    ensures { λ r. ⌜ r ≡ lesser run x ⌝ }
+{
+    if x < run {
+        return x;
+    }
+    if run != run {
+        return x;
+    }
+    run
+}
+
+// The greater of the running number and x: a NaN yields the other, and of numerically equal ones the running one is kept.
+pub fn greater(run: f64, x: f64) -> f64
+    ensures { λ r. ⌜ r ≡ greater run x ⌝ }
+{
+    if run < x {
+        return x;
+    }
+    if run != run {
+        return x;
+    }
+    run
+}
+
+// Whether x is -0, which no comparison tells from +0.
+pub fn minus_zero(x: f64) -> bool
+    ensures { λ r. ⌜ r ≡ minusZero x ⌝ }
+{
+    if x == 0.0 {
+        return 1.0 / x < 0.0;
+    }
+    false
+}
+
+// Whether x is the lesser number; a NaN is above every number.
+pub fn less_number(x: f64, y: f64) -> bool
+    ensures { λ r. ⌜ r ≡ lessNumber x y ⌝ }
+{
+    if x != x {
+        return false;
+    }
+    if y != y {
+        return true;
+    }
+    x < y
+}
+
+// Whether x comes before y by `total_cmp`: by number, -0 before +0, a NaN last.
+pub fn total_less(x: f64, y: f64) -> bool
+    ensures { λ r. ⌜ r ≡ totalLess x y ⌝ }
+{
+    if less_number(x, y) {
+        return true;
+    }
+    if less_number(y, x) {
+        return false;
+    }
+    if minus_zero(x) {
+        return !minus_zero(y);
+    }
+    false
+}
