@@ -1,0 +1,134 @@
+// Axis-aligned boxes. Lesser and greater are document 01's: a NaN yields the other number, and of equal numbers the running one is kept.
+use crate::vector;
+use crate::vector::Vec3;
+
+ghost use mathlib.Core.Path.{_≡_};
+ghost use Rattle.aabb.specs.Bounds.{emptyBox, ofThree, grown, union, center, extent, area, bounded, isEmpty, usable, boxAt};
+
+pub struct Aabb {
+    pub min: Vec3,
+    pub max: Vec3,
+}
+
+impl Aabb {
+    // The cost figures of the builder's choice of a split, as the Rust names them.
+    pub const SAH_TRAVERSAL_COST: f64 = 1.0;
+    pub const SAH_INTERSECTION_COST: f64 = 1.5;
+    pub const SAH_BINS: u32 = 16;
+    pub const MAX_LEAF_PRIMITIVES: usize = 4;
+
+    // The empty box, from which a box grows: +inf three times, -inf three times.
+    pub fn empty() -> Self
+        ensures { λ r. ⌜ r ≡ emptyBox ⌝ }
+    {
+        let i = order::infinity();
+        Self {
+            min: Vec3 { x: i, y: i, z: i },
+            max: Vec3 {
+                x: -i,
+                y: -i,
+                z: -i,
+            },
+        }
+    }
+
+    // The box of three points: `from_points` of the Rust, as far as it is needed.
+    pub fn from_points(a: Vec3, b: Vec3, c: Vec3) -> Aabb
+        ensures { λ r. ⌜ r ≡ ofThree a b c ⌝ }
+    {
+        Aabb::empty().grow(a).grow(b).grow(c)
+    }
+
+    // The box, grown to hold the point.
+    pub fn grow(self, point: Vec3) -> Aabb
+        ensures { λ r. ⌜ r ≡ grown self point ⌝ }
+    {
+        let min = self.min.least(point);
+        let max = self.max.greatest(point);
+        Aabb { min, max }
+    }
+
+    // The least box that holds both.
+    pub fn union(self, other: Aabb) -> Aabb
+        ensures { λ r. ⌜ r ≡ union self other ⌝ }
+    {
+        let min = self.min.least(other.min);
+        let max = self.max.greatest(other.max);
+        Aabb { min, max }
+    }
+
+    // (min + max)·0.5
+    pub fn center(self) -> Vec3
+        ensures { λ r. ⌜ r ≡ center self ⌝ }
+    {
+        self.min.plus(self.max).scaled(0.5)
+    }
+
+    // max - min
+    pub fn extent(self) -> Vec3
+        ensures { λ r. ⌜ r ≡ extent self ⌝ }
+    {
+        self.max.minus(self.min)
+    }
+
+    // 0 if an extent is negative, else 2·((dx·dy + dy·dz) + dz·dx).
+    pub fn surface_area(self) -> f64
+        ensures { λ r. ⌜ r ≡ area self ⌝ }
+    {
+        let d = self.extent();
+        if d.x < 0.0 {
+            return 0.0;
+        }
+        if d.y < 0.0 {
+            return 0.0;
+        }
+        if d.z < 0.0 {
+            return 0.0;
+        }
+        2.0 * ((d.x * d.y + d.y * d.z) + d.z * d.x)
+    }
+
+    // Whether the six numbers are finite, of magnitude at most 2^40, each min at most its max.
+    pub fn bounded(self) -> bool
+        ensures { λ r. ⌜ r ≡ bounded self ⌝ }
+    {
+        if self.min.within(1099511627776.0) {
+            if self.max.within(1099511627776.0) {
+                return self.min.at_most(self.max);
+            }
+            return false;
+        }
+        false
+    }
+
+    // Whether it is exactly the empty box.
+    pub fn is_empty(self) -> bool
+        ensures { λ r. ⌜ r ≡ isEmpty self ⌝ }
+    {
+        let i = order::infinity();
+        if self.min.all_equal(i) {
+            return self.max.all_equal(-i);
+        }
+        false
+    }
+
+    // Whether a walk can use it: bounded, or exactly the empty box.
+    pub fn usable(self) -> bool
+        ensures { λ r. ⌜ r ≡ usable self ⌝ }
+    {
+        if self.bounded() {
+            return true;
+        }
+        self.is_empty()
+    }
+
+    // Box i of a lent slice, six numbers each: min x, y, z, max x, y, z; a NaN for each place beyond its end.
+    pub fn read(numbers: &[f64], i: usize) -> Aabb
+        ensures { λ r. ⌜ r ≡ boxAt (now (numbers .entry)) i ⌝ }
+    {
+        let at = vector::place(numbers, i, 6);
+        let min = Vec3::read(numbers, at);
+        let max = Vec3::read(numbers, at + 3);
+        Aabb { min, max }
+    }
+}

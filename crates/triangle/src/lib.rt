@@ -1,0 +1,152 @@
+// Triangles and the Möller–Trumbore test: a port of triangle.rs. Every call answers on every f64.
+// Left out, as document 01 says: `Triangle::new`, the conversion from optics_core, `material_id`. The hit carries the triangle's number in
+// place of `surface_index`. A mesh is a lent slice, twelve numbers a triangle: v0, v1, v2, normal.
+use aabb::Aabb;
+use aabb::Ray;
+use aabb::Vec3;
+
+ghost use mathlib.Core.Path.{_≡_};
+ghost use Rattle.triangle.specs.Mesh.{triangleAt, boundsOf, centroidOf, admittedTriangle};
+ghost use Rattle.triangle.specs.Meeting.{distance, hitAt, strike};
+
+pub struct Triangle {
+    pub v0: Vec3,
+    pub v1: Vec3,
+    pub v2: Vec3,
+    pub normal: Vec3,
+}
+
+// What a ray finds where it meets a triangle: the distance, the point, the normal on the ray's side, whether that side is the front, and the triangle's number.
+pub struct Hit {
+    pub t: f64,
+    pub point: Vec3,
+    pub normal: Vec3,
+    pub front: bool,
+    pub triangle: u32,
+}
+
+// What a ray finds of a triangle.
+pub enum Found {
+    At(Hit),
+    Nothing,
+}
+
+// How far along the ray it meets the triangle, if it does.
+pub enum Distance {
+    To(f64),
+    None,
+}
+
+impl Triangle {
+    // Triangle i of a mesh; a NaN for each number beyond the mesh's end.
+    pub fn read(mesh: &[f64], i: usize) -> Triangle
+        ensures { λ r. ⌜ r ≡ triangleAt (now (mesh .entry)) i ⌝ }
+    {
+        let at = aabb::vector::place(mesh, i, 12);
+        let v0 = Vec3::read(mesh, at);
+        let v1 = Vec3::read(mesh, at + 3);
+        let v2 = Vec3::read(mesh, at + 6);
+        let normal = Vec3::read(mesh, at + 9);
+        Triangle { v0, v1, v2, normal }
+    }
+
+    // The box of the three vertices.
+    pub fn aabb(self) -> Aabb
+        ensures { λ r. ⌜ r ≡ boundsOf self ⌝ }
+    {
+        Aabb::from_points(self.v0, self.v1, self.v2)
+    }
+
+    // ((v0 + v1) + v2) / 3, by component.
+    pub fn centroid(self) -> Vec3
+        ensures { λ r. ⌜ r ≡ centroidOf self ⌝ }
+    {
+        self.v0.plus(self.v1).plus(self.v2).divided(3.0)
+    }
+
+    // Whether it is admitted: vertex numbers finite, magnitude at most 2^40; normal numbers finite, magnitude at most 2.
+    pub fn admitted(self) -> bool
+        ensures { λ r. ⌜ r ≡ admittedTriangle self ⌝ }
+    {
+        if self.v0.within(1099511627776.0) {
+            if self.v1.within(1099511627776.0) {
+                if self.v2.within(1099511627776.0) {
+                    return self.normal.within(2.0);
+                }
+                return false;
+            }
+            return false;
+        }
+        false
+    }
+
+    // How far along the ray the triangle is met: the test of the Rust, step by step, without the hit.
+    pub fn distance(self, ray: Ray) -> Distance
+        ensures { λ r. ⌜ r ≡ distance ray self ⌝ }
+    {
+        let edge1 = self.v1.minus(self.v0);
+        let edge2 = self.v2.minus(self.v0);
+        let pvec = ray.direction.cross(edge2);
+        let det = edge1.dot(pvec);
+        if order::magnitude(det) < 1e-10 {
+            return Distance::None;
+        }
+        let inv_det = 1.0 / det;
+        let tvec = ray.origin.minus(self.v0);
+        let u = tvec.dot(pvec) * inv_det;
+        if !(0.0 <= u) {
+            return Distance::None;
+        }
+        if !(u <= 1.0) {
+            return Distance::None;
+        }
+        let qvec = tvec.cross(edge1);
+        let v = ray.direction.dot(qvec) * inv_det;
+        if v < 0.0 {
+            return Distance::None;
+        }
+        if u + v > 1.0 {
+            return Distance::None;
+        }
+        let t = edge2.dot(qvec) * inv_det;
+        if t <= 1e-6 {
+            return Distance::None;
+        }
+        Distance::To(t)
+    }
+
+    // The hit at distance t: front when direction·normal < 0, otherwise the normal is negated.
+    pub fn hit(self, ray: Ray, t: f64, number: u32) -> Hit
+        ensures { λ r. ⌜ r ≡ hitAt ray self number t ⌝ }
+    {
+        let point = ray.at(t);
+        let front = ray.direction.dot(self.normal) < 0.0;
+        if front {
+            return Hit {
+                t,
+                point,
+                normal: self.normal,
+                front: true,
+                triangle: number,
+            };
+        }
+        let normal = self.normal.negated();
+        Hit {
+            t,
+            point,
+            normal,
+            front: false,
+            triangle: number,
+        }
+    }
+
+    // What the ray finds of the triangle, whose number is given.
+    pub fn intersect(self, ray: Ray, number: u32) -> Found
+        ensures { λ r. ⌜ r ≡ strike ray self number ⌝ }
+    {
+        match self.distance(ray) {
+            Distance::None => Found::Nothing,
+            Distance::To(t) => Found::At(self.hit(ray, t, number)),
+        }
+    }
+}
