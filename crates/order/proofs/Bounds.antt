@@ -16,7 +16,7 @@ use Rattle.order.specs.Number.{two-to-40, trillionth, one, two}
 use Rattle.order.proofs.Numbers.{two-to-40-is, trillionth-is, one-is, two-is}
 use Rattle.order.proofs.Order.{gain, loss, le→under, le-trans}
 use Rattle.order.proofs.Round.{Rounds, Split}
-use Rattle.order.proofs.Monotone.{sub-rounds, mul-rounds}
+use Rattle.order.proofs.Fraction.{sub-rounds}
 use Rattle.order.specs.Pick.{magnitude}
 
 -- what is no larger in size than a finite value is finite

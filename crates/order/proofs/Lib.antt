@@ -1,6 +1,8 @@
 pub mod Numbers
 pub mod Order
 pub mod Round
+pub mod Fraction
+pub mod Turned
 pub mod Monotone
 pub mod Bounds
 pub mod Pick

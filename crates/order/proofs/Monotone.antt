@@ -1,94 +1,38 @@
--- A sum, a difference and a product of finite values of either sign, as fractions that are rounded: so each keeps, or turns round, the order of its operands.
--- Assumes nothing.
-use mathlib.Core.Path.{_≡_, refl, sym, ap, _∙_, subst}
+-- A sum, a difference and a product keep the order of their operands, or turn it round, whatever the signs, zeros and infinities included.
+-- Of finite operands since rounding keeps the order of fractions; and an infinite operand gives that infinity, or no number. Assumes nothing.
+use mathlib.Core.Path.{_≡_, refl}
 use mathlib.Core.Logic.{_⊎_, inl, inr}
-use Prim.Native.Nat.{ℕ, zero, suc, _+_, _-_, _*_, _≤_, _<_}
-use native.Mathlib.Nat.{mul-le-mul-right, mul-pos}
+use Prim.Native.Nat.{ℕ, zero, suc, _+_, _*_, _≤_, _<_}
+use native.Mathlib.Nat.{zero-lt-suc, mul-le-mul-right, mul-pos}
 use native.Mathlib.Omega.{arith}
-use mathlib.Core.Bool.{Bool, true, false, not, _&&_, cond}
-use lib.Dec.{T, ltb, ltb→lt, nltb→le}
-use lib.Ieee.{Float, nan, inf, fin, Format, up, down, round, sum, add, sub, mul, neg, le}
+use mathlib.Core.Bool.{Bool, true, false}
+use lib.IntN.{ℤ, pos}
+use lib.Dec.{T, eqb·suc-zero}
+use lib.Ieee.{Float, nan, inf, fin, Format, add, sub, mul, neg, le}
+use lib.Ieee.Fits.{up-pos, down-pos}
 use lib.Ieee.Positive.{den, den-pos}
 use lib.Ieee.Scale.{finite}
-use Rattle.order.specs.Number.{real}
-use Rattle.order.proofs.Order.{gain, loss, Under, le→under}
-use Rattle.order.proofs.Round.{Rounds, Split, rounds-mono, rounds-real}
-
--- ---- the sum
-abbrev part : Bool → ℕ → ℕ
-part false a = a
-part true a = 0
-
-sum-rounds : (f : Format) (s : Bool) (a : ℕ) (t : Bool) (b c g l : ℕ) → g ≡ part s a + part t b → l ≡ part (not s) a + part (not t) b → Rounds f (sum f s a t b c) g l c
-unfolding sum
-sum-rounds f false a false b c g l p q = record { sign = false; size = a + b; split = omega arith; is = refl }
-sum-rounds f false a true b c g l p q = go (ltb a b) (ltb→lt a b) (nltb→le a b)
-  where
-    go : (z : Bool) → (T z → a < b) → (T (not z) → b ≤ a) → Rounds f (cond z (round f true (b - a) c) (round f false (a - b) c)) g l c
-    go true h k = record { sign = true; size = b - a; split = omega (arith, h tt); is = refl }
-    go false h k = record { sign = false; size = a - b; split = omega (arith, k tt); is = refl }
-sum-rounds f true a false b c g l p q = go (ltb a b) (ltb→lt a b) (nltb→le a b) (ltb b a) (nltb→le b a)
-  where
-    go : (z : Bool) → (T z → a < b) → (T (not z) → b ≤ a) → (y : Bool) → (T (not y) → a ≤ b) → Rounds f (cond z (round f false (b - a) c) (round f y (a - b) c)) g l c
-    go true h k y j = record { sign = false; size = b - a; split = omega (arith, h tt); is = refl }
-    go false h k true j = record { sign = true; size = a - b; split = omega (arith, k tt); is = refl }
-    go false h k false j = record { sign = false; size = a - b; split = omega (arith, k tt, j tt); is = refl }
-sum-rounds f true a true b c g l p q = record { sign = true; size = a + b; split = omega arith; is = refl }
-
-pub add-rounds : (f : Format) (x y : Float) → T (finite x) → T (finite y) → Rounds f (add f x y) (gain x * den y + gain y * den x) (loss x * den y + loss y * den x) (den x * den y)
-unfolding add
-add-rounds f nan y p q = absurd p
-add-rounds f (inf s) y p q = absurd p
-add-rounds f (fin s m e) nan p q = absurd q
-add-rounds f (fin s m e) (inf t) p q = absurd q
-add-rounds f (fin false m e) (fin false n d) p q = sum-rounds f false (m * up e * down d) false (n * up d * down e) (down e * down d) _ _ (omega arith) (omega arith)
-add-rounds f (fin false m e) (fin true n d) p q = sum-rounds f false (m * up e * down d) true (n * up d * down e) (down e * down d) _ _ (omega arith) (omega arith)
-add-rounds f (fin true m e) (fin false n d) p q = sum-rounds f true (m * up e * down d) false (n * up d * down e) (down e * down d) _ _ (omega arith) (omega arith)
-add-rounds f (fin true m e) (fin true n d) p q = sum-rounds f true (m * up e * down d) true (n * up d * down e) (down e * down d) _ _ (omega arith) (omega arith)
-
-pub sub-rounds : (f : Format) (x y : Float) → T (finite x) → T (finite y) → Rounds f (sub f x y) (gain x * den y + loss y * den x) (loss x * den y + gain y * den x) (den x * den y)
-unfolding sub neg
-sub-rounds f x nan p q = absurd q
-sub-rounds f x (inf t) p q = absurd q
-sub-rounds f x (fin false n d) p q = add-rounds f x (fin true n d) p q
-sub-rounds f x (fin true n d) p q = add-rounds f x (fin false n d) p q
-
--- ---- the product
-pub mul-rounds : (f : Format) (x y : Float) → T (finite x) → T (finite y) → Rounds f (mul f x y) (gain x * gain y + loss x * loss y) (gain x * loss y + loss x * gain y) (den x * den y)
-unfolding mul
-mul-rounds f nan y p q = absurd p
-mul-rounds f (inf s) y p q = absurd p
-mul-rounds f (fin s m e) nan p q = absurd q
-mul-rounds f (fin s m e) (inf t) p q = absurd q
-mul-rounds f (fin false m e) (fin false n d) p q = record { sign = false; size = m * up e * (n * up d); split = omega arith; is = refl }
-mul-rounds f (fin false m e) (fin true n d) p q = record { sign = true; size = m * up e * (n * up d); split = omega arith; is = refl }
-mul-rounds f (fin true m e) (fin false n d) p q = record { sign = true; size = m * up e * (n * up d); split = omega arith; is = refl }
-mul-rounds f (fin true m e) (fin true n d) p q = record { sign = false; size = m * up e * (n * up d); split = omega arith; is = refl }
+use Rattle.order.specs.Number.{real, nought}
+use Rattle.order.proofs.Numbers.{nought-is}
+use Rattle.order.proofs.Order.{gain, loss, le→under, under→le, le-refl, le-trans}
+use Rattle.order.proofs.Round.{le-neg, rounds-mono, rounds-real}
+use Rattle.order.proofs.Turned.{add-comm, mul-neg}
+use Rattle.order.proofs.Fraction.{add-rounds, sub-rounds, mul-rounds}
 
 dens : (x y : Float) → 0 < den x * den y
 dens x y = mul-pos (den-pos x) (den-pos y)
 
--- no NaN comes of finite operands
+-- ---- finite operands: no NaN comes of them
+pub add-real : (f : Format) (x y : Float) → T (finite x) → T (finite y) → T (real (add f x y))
+add-real f x y p q = rounds-real f (add f x y) _ _ (den x * den y) (dens x y) (add-rounds f x y p q)
+
 pub sub-real : (f : Format) (x y : Float) → T (finite x) → T (finite y) → T (real (sub f x y))
 sub-real f x y p q = rounds-real f (sub f x y) _ _ (den x * den y) (dens x y) (sub-rounds f x y p q)
 
 pub mul-real : (f : Format) (x y : Float) → T (finite x) → T (finite y) → T (real (mul f x y))
 mul-real f x y p q = rounds-real f (mul f x y) _ _ (den x * den y) (dens x y) (mul-rounds f x y p q)
 
--- ---- the order
-sub-cross : (gx lx dx gy ly dy go lo d : ℕ) → gx * dy + ly * dx ≤ gy * dx + lx * dy
-    → (gx * d + lo * dx) * (dy * d) + (ly * d + go * dy) * (dx * d) ≤ (gy * d + lo * dy) * (dx * d) + (lx * d + go * dx) * (dy * d)
-sub-cross gx lx dx gy ly dy go lo d h = omega (arith, mul-le-mul-right (d * d) h)
-
-pub sub-mono : (f : Format) (x y o : Float) → T (finite x) → T (finite y) → T (finite o) → T (le x y) → T (le (sub f x o) (sub f y o))
-sub-mono f x y o p q r h =
-    rounds-mono _ _ (den x * den o) _ _ (den y * den o) (dens x o) (dens y o)
-    (sub-cross (gain x) (loss x) (den x) (gain y) (loss y) (den y) (gain o) (loss o) (den o) (le→under x y p q h))
-    f (sub f x o) (sub f y o) (sub-rounds f x o p r) (sub-rounds f y o q r)
-
-pub add-real : (f : Format) (x y : Float) → T (finite x) → T (finite y) → T (real (add f x y))
-add-real f x y p q = rounds-real f (add f x y) _ _ (den x * den y) (dens x y) (add-rounds f x y p q)
-
+-- ---- finite operands: the order, with the fractions multiplied out
 add-cross : (gx lx dx gy ly dy go lo d : ℕ) → gx * dy + ly * dx ≤ gy * dx + lx * dy
     → (gx * d + go * dx) * (dy * d) + (ly * d + lo * dy) * (dx * d) ≤ (gy * d + go * dy) * (dx * d) + (lx * d + lo * dx) * (dy * d)
 add-cross gx lx dx gy ly dy go lo d h = omega (arith, mul-le-mul-right (d * d) h)
@@ -99,37 +43,150 @@ add-mono f x y o p q r h =
     (add-cross (gain x) (loss x) (den x) (gain y) (loss y) (den y) (gain o) (loss o) (den o) (le→under x y p q h))
     f (add f x o) (add f y o) (add-rounds f x o p r) (add-rounds f y o q r)
 
-anti-cross : (gx lx dx gy ly dy go lo d : ℕ) → gx * dy + ly * dx ≤ gy * dx + lx * dy
-    → (go * dy + ly * d) * (d * dx) + (lo * dx + gx * d) * (d * dy) ≤ (go * dx + lx * d) * (d * dy) + (lo * dy + gy * d) * (d * dx)
-anti-cross gx lx dx gy ly dy go lo d h = omega (arith, mul-le-mul-right (d * d) h)
-
--- a difference shrinks as what is taken away grows
-pub sub-anti : (f : Format) (o x y : Float) → T (finite o) → T (finite x) → T (finite y) → T (le x y) → T (le (sub f o y) (sub f o x))
-sub-anti f o x y r p q h =
-    rounds-mono _ _ (den o * den y) _ _ (den o * den x) (dens o y) (dens o x)
-    (anti-cross (gain x) (loss x) (den x) (gain y) (loss y) (den y) (gain o) (loss o) (den o) (le→under x y p q h))
-    f (sub f o y) (sub f o x) (sub-rounds f o y r q) (sub-rounds f o x r p)
-
-up-cross : (gx lx dx gy ly dy gk d : ℕ) → gx * dy + ly * dx ≤ gy * dx + lx * dy
+mul-cross : (gx lx dx gy ly dy gk d : ℕ) → gx * dy + ly * dx ≤ gy * dx + lx * dy
     → (gx * gk + lx * 0) * (dy * d) + (gy * 0 + ly * gk) * (dx * d) ≤ (gy * gk + ly * 0) * (dx * d) + (gx * 0 + lx * gk) * (dy * d)
-up-cross gx lx dx gy ly dy gk d h = omega (arith, mul-le-mul-right (gk * d) h)
+mul-cross gx lx dx gy ly dy gk d h = omega (arith, mul-le-mul-right (gk * d) h)
 
-down-cross : (gx lx dx gy ly dy lk d : ℕ) → gx * dy + ly * dx ≤ gy * dx + lx * dy
-    → (gy * 0 + ly * lk) * (dx * d) + (gx * lk + lx * 0) * (dy * d) ≤ (gx * 0 + lx * lk) * (dy * d) + (gy * lk + ly * 0) * (dx * d)
-down-cross gx lx dx gy ly dy lk d h = omega (arith, mul-le-mul-right (lk * d) h)
-
--- by a factor that is not negative the order stays; by one that is not positive it turns round
 pub mul-mono : (f : Format) (x y k : Float) → T (finite x) → T (finite y) → T (finite k) → loss k ≡ 0 → T (le x y) → T (le (mul f x k) (mul f y k))
 mul-mono f x y k p q r z h =
     rounds-mono _ _ (den x * den k) _ _ (den y * den k) (dens x k) (dens y k)
-    (rw z (up-cross (gain x) (loss x) (den x) (gain y) (loss y) (den y) (gain k) (den k) (le→under x y p q h)))
+    (rw z (mul-cross (gain x) (loss x) (den x) (gain y) (loss y) (den y) (gain k) (den k) (le→under x y p q h)))
     f (mul f x k) (mul f y k) (mul-rounds f x k p r) (mul-rounds f y k q r)
 
+-- ---- an operation that leaves an infinite operand as it is keeps the order of all where it keeps that of the finite ones
+least : (x : Float) → T (real x) → T (le (inf true) x)
+unfolding le
+least nan p = p
+least (inf true) p = tt
+least (inf false) p = tt
+least (fin s m e) p = tt
+
+most : (x : Float) → T (real x) → T (le x (inf false))
+unfolding le
+most nan p = p
+most (inf true) p = tt
+most (inf false) p = tt
+most (fin s m e) p = tt
+
+module _ (g : Float → Float) (ends : (s : Bool) → T (real (g (inf s))) → g (inf s) ≡ inf s) (inner : (x y : Float) → T (finite x) → T (finite y) → T (real (g x)) → T (real (g y)) → T (le x y) → T (le (g x) (g y))) where
+  keeps : (x y : Float) → T (le x y) → T (real (g x)) → T (real (g y)) → T (le (g x) (g y))
+  unfolding le
+  keeps nan y h p q = absurd h
+  keeps (inf true) y h p q = rw (ends true p) (least (g y) q)
+  keeps (inf false) nan h p q = absurd h
+  keeps (inf false) (inf true) h p q = absurd h
+  keeps (inf false) (inf false) h p q = le-refl (g (inf false)) p
+  keeps (inf false) (fin t n d) h p q = absurd h
+  keeps (fin s m e) nan h p q = absurd h
+  keeps (fin s m e) (inf true) h p q = absurd h
+  keeps (fin s m e) (inf false) h p q = rw (ends false q) (most (g (fin s m e)) p)
+  keeps (fin s m e) (fin t n d) h p q = inner (fin s m e) (fin t n d) tt tt p q h
+
+-- ---- the sum
+add-ends : (f : Format) (o : Float) (s : Bool) → T (real (add f (inf s) o)) → add f (inf s) o ≡ inf s
+unfolding add
+add-ends f nan s p = absurd p
+add-ends f (inf true) true p = refl
+add-ends f (inf true) false p = absurd p
+add-ends f (inf false) true p = absurd p
+add-ends f (inf false) false p = refl
+add-ends f (fin t n d) s p = refl
+
+add-inner : (f : Format) (o x y : Float) → T (finite x) → T (finite y) → T (real (add f x o)) → T (real (add f y o)) → T (le x y) → T (le (add f x o) (add f y o))
+unfolding add
+add-inner f o nan y p q a b h = absurd p
+add-inner f o (inf s) y p q a b h = absurd p
+add-inner f o (fin s m e) nan p q a b h = absurd q
+add-inner f o (fin s m e) (inf t) p q a b h = absurd q
+add-inner f nan (fin s m e) (fin t n d) p q a b h = absurd a
+add-inner f (inf u) (fin s m e) (fin t n d) p q a b h = le-refl (inf u) tt
+add-inner f (fin u k c) (fin s m e) (fin t n d) p q a b h = add-mono f (fin s m e) (fin t n d) (fin u k c) tt tt tt h
+
+pub add-keeps : (f : Format) (x y o : Float) → T (le x y) → T (real (add f x o)) → T (real (add f y o)) → T (le (add f x o) (add f y o))
+add-keeps f x y o = keeps (λ (z : Float). add f z o) (add-ends f o) (add-inner f o) x y
+
+-- ---- the difference
+pub sub-keeps : (f : Format) (x y o : Float) → T (le x y) → T (real (sub f x o)) → T (real (sub f y o)) → T (le (sub f x o) (sub f y o))
+unfolding sub
+sub-keeps f x y o = add-keeps f x y (neg o)
+
+pub sub-turns : (f : Format) (o x y : Float) → T (le x y) → T (real (sub f o x)) → T (real (sub f o y)) → T (le (sub f o y) (sub f o x))
+unfolding sub
+sub-turns f o x y h p q =
+    rw (add-comm f o (neg y), add-comm f o (neg x)) (add-keeps f (neg y) (neg x) o (le-neg x y h) (rw (add-comm f o (neg y)) at q) (rw (add-comm f o (neg x)) at p))
+
+pub sub-mono : (f : Format) (x y o : Float) → T (finite x) → T (finite y) → T (finite o) → T (le x y) → T (le (sub f x o) (sub f y o))
+sub-mono f x y o p q r h = sub-keeps f x y o h (sub-real f x o p r) (sub-real f y o q r)
+
+pub sub-anti : (f : Format) (o x y : Float) → T (finite o) → T (finite x) → T (finite y) → T (le x y) → T (le (sub f o y) (sub f o x))
+sub-anti f o x y r p q h = sub-turns f o x y h (sub-real f o x r p) (sub-real f o y r q)
+
+-- ---- the product by a factor that is not negative
+abbrev zero′ : Float
+zero′ = fin false 0 (pos 0)
+
+no-loss : (k : Float) → T (finite k) → T (le zero′ k) → loss k ≡ 0
+no-loss nan p h = absurd p
+no-loss (inf s) p h = absurd p
+no-loss (fin false n d) p h = refl
+no-loss (fin true n d) p h = omega (arith, le→under zero′ (fin true n d) tt tt h)
+
+-- nothing but a zero that is written as negative is at least one that is not
+signs : (m : ℕ) (e : ℤ) (n : ℕ) (d : ℤ) → T (le (fin false m e) (fin true (suc n) d)) → ⊥
+signs m e n d h = omega (arith, le→under (fin false m e) (fin true (suc n) d) tt tt h, mul-pos (mul-pos (zero-lt-suc n) (up-pos d)) (down-pos e))
+
+mul-ends : (f : Format) (k : Float) → T (le zero′ k) → (s : Bool) → T (real (mul f (inf s) k)) → mul f (inf s) k ≡ inf s
+unfolding mul
+mul-ends f nan h s p = absurd p
+mul-ends f (inf true) h s p = absurd (unfold le in h)
+mul-ends f (inf false) h true p = refl
+mul-ends f (inf false) h false p = refl
+mul-ends f (fin t zero d) h s p = absurd p
+mul-ends f (fin false (suc n) d) h true p = rw eqb·suc-zero
+mul-ends f (fin false (suc n) d) h false p = rw eqb·suc-zero
+mul-ends f (fin true (suc n) d) h s p = absurd (signs 0 (pos 0) n d h)
+
+far-mul : (f : Format) (s : Bool) (m : ℕ) (e : ℤ) → T (real (mul f (fin s m e) (inf false))) → mul f (fin s m e) (inf false) ≡ inf s
+unfolding mul
+far-mul f s zero e p = absurd p
+far-mul f true (suc m) e p = rw eqb·suc-zero
+far-mul f false (suc m) e p = rw eqb·suc-zero
+
+mul-inner : (f : Format) (k : Float) → T (le zero′ k) → (x y : Float) → T (finite x) → T (finite y) → T (real (mul f x k)) → T (real (mul f y k)) → T (le x y) → T (le (mul f x k) (mul f y k))
+unfolding mul
+mul-inner f k z nan y p q a b h = absurd p
+mul-inner f k z (inf s) y p q a b h = absurd p
+mul-inner f k z (fin s m e) nan p q a b h = absurd q
+mul-inner f k z (fin s m e) (inf t) p q a b h = absurd q
+mul-inner f nan z (fin s m e) (fin t n d) p q a b h = absurd a
+mul-inner f (inf true) z (fin s m e) (fin t n d) p q a b h = absurd (unfold le in z)
+mul-inner f (inf false) z (fin true m e) (fin t n d) p q a b h = rw (far-mul f true m e a) (least (mul f (fin t n d) (inf false)) b)
+mul-inner f (inf false) z (fin false m e) (fin false n d) p q a b h = rw (far-mul f false n d b) (most (mul f (fin false m e) (inf false)) a)
+mul-inner f (inf false) z (fin false m e) (fin true zero d) p q a b h = absurd b
+mul-inner f (inf false) z (fin false m e) (fin true (suc n) d) p q a b h = absurd (signs m e n d h)
+mul-inner f (fin u k c) z (fin s m e) (fin t n d) p q a b h = mul-mono f (fin s m e) (fin t n d) (fin u k c) tt tt tt (no-loss (fin u k c) tt z) h
+
+pub mul-keeps : (f : Format) (x y k : Float) → T (le nought k) → T (le x y) → T (real (mul f x k)) → T (real (mul f y k)) → T (le (mul f x k) (mul f y k))
+mul-keeps f x y k z = keeps (λ (w : Float). mul f w k) (mul-ends f k (rw nought-is at z)) (mul-inner f k (rw nought-is at z)) x y
+
+-- ---- the product by a factor that is not positive: the sign of the factor is turned, and that of the product
+real-neg : (x : Float) → T (real (neg x)) → T (real x)
+unfolding neg
+real-neg nan p = p
+real-neg (inf s) p = tt
+real-neg (fin s m e) p = tt
+
+neg-zero : (k : Float) → T (le k zero′) → T (le zero′ (neg k))
+unfolding neg le
+neg-zero k h = le-trans zero′ (neg zero′) (neg k) tt (le-neg k zero′ h)
+
+pub mul-turns : (f : Format) (x y k : Float) → T (le k nought) → T (le x y) → T (real (mul f x k)) → T (real (mul f y k)) → T (le (mul f y k) (mul f x k))
+mul-turns f x y k z h p q =
+    rw (mul-neg f y k, mul-neg f x k)
+    (le-neg (mul f x (neg k)) (mul f y (neg k)) (mul-keeps f x y (neg k) (rw nought-is (neg-zero k (rw nought-is at z))) h (real-neg (mul f x (neg k)) (rw (mul-neg f x k) at p)) (real-neg (mul f y (neg k)) (rw (mul-neg f y k) at q))))
+
 pub mul-anti : (f : Format) (x y k : Float) → T (finite x) → T (finite y) → T (finite k) → gain k ≡ 0 → T (le x y) → T (le (mul f y k) (mul f x k))
-mul-anti f x y k p q r z h =
-    rounds-mono _ _ (den y * den k) _ _ (den x * den k) (dens y k) (dens x k)
-    (rw z (down-cross (gain x) (loss x) (den x) (gain y) (loss y) (den y) (loss k) (den k) (le→under x y p q h)))
-    f (mul f y k) (mul f x k) (mul-rounds f y k q r) (mul-rounds f x k p r)
+mul-anti f x y k p q r z h = mul-turns f x y k (rw nought-is (under→le k zero′ r tt (omega arith))) h (mul-real f x k p r) (mul-real f y k q r)
 
 pub side : (k : Float) → T (finite k) → (loss k ≡ 0) ⊎ (gain k ≡ 0)
 side nan h = absurd h

@@ -33,27 +33,27 @@ le-neg (fin false m e) (fin true n d) h = under→le (fin false n d) (fin true m
 le-neg (fin true m e) (fin false n d) h = under→le (fin true n d) (fin false m e) tt tt (omega (arith, le→under (fin true m e) (fin false n d) tt tt h))
 le-neg (fin true m e) (fin true n d) h = under→le (fin false n d) (fin false m e) tt tt (omega (arith, le→under (fin true m e) (fin true n d) tt tt h))
 
-neg-odd : (d q k l : ℕ) → neg (odd d false q k l) ≡ odd d true q k l
+neg-odd : (d : ℕ) (s : Bool) (q k l : ℕ) → neg (odd d s q k l) ≡ odd d (not s) q k l
 unfolding neg odd
-neg-odd d zero k l = refl
-neg-odd d (suc q) k l = refl
+neg-odd d s zero k l = refl
+neg-odd d s (suc q) k l = refl
 
-neg-units : (f : Format) (q k : ℕ) → neg (units f false q k) ≡ units f true q k
+neg-units : (f : Format) (s : Bool) (q k : ℕ) → neg (units f s q k) ≡ units f (not s) q k
 unfolding neg units
-neg-units f q k = go (ltb (q * 2 ^ k) (2 ^ (low f + suc (emax f))))
+neg-units f s q k = go (ltb (q * 2 ^ k) (2 ^ (low f + suc (emax f))))
   where
-    go : (b : Bool) → neg (cond b (odd (suc (prec f)) false q k (low f)) (inf false)) ≡ cond b (odd (suc (prec f)) true q k (low f)) (inf true)
-    go true = neg-odd (suc (prec f)) q k (low f)
+    go : (b : Bool) → neg (cond b (odd (suc (prec f)) s q k (low f)) (inf s)) ≡ cond b (odd (suc (prec f)) (not s) q k (low f)) (inf (not s))
+    go true = neg-odd (suc (prec f)) s q k (low f)
     go false = refl
 
-pub neg-round : (f : Format) (a c : ℕ) → neg (round f false a c) ≡ round f true a c
-neg-round f a c =
+pub neg-round : (f : Format) (s : Bool) (a c : ℕ) → neg (round f s a c) ≡ round f (not s) a c
+neg-round f s a c =
     let n = a * 2 ^ low f in
-    ap neg (round-is f false a c) ∙ neg-units f (kept (prec f) n c) (drop (prec f) n c) ∙ sym (round-is f true a c)
+    ap neg (round-is f s a c) ∙ neg-units f s (kept (prec f) n c) (drop (prec f) n c) ∙ sym (round-is f (not s) a c)
 
 -- ---- `round` with a sign
 down-mono : (f : Format) (a c b d : ℕ) → 0 < c → 0 < d → b * c ≤ a * d → T (le (round f true a c) (round f true b d))
-down-mono f a c b d C D h = rw (← neg-round f a c, ← neg-round f b d) (le-neg (round f false b d) (round f false a c) (round-mono f b d a c D C h))
+down-mono f a c b d C D h = rw (← neg-round f false a c, ← neg-round f false b d) (le-neg (round f false b d) (round f false a c) (round-mono f b d a c D C h))
 
 zeros : (f : Format) → T (le (round f true 0 1) (round f false 0 1)) × T (le (round f false 0 1) (round f true 0 1))
 unfolding le round
