@@ -5,7 +5,7 @@ use mathlib.Core.Bool.{true, false}
 use Prim.Native.Nat.{_^_}
 use lib.IntN.{pos, negsuc}
 use lib.Ieee.{Float, inf, fin, binary64, ofBits, round}
-use Rattle.order.specs.Number.{nought, half, one, one-and-half, two, three, sixteen, two-to-40, millionth, ten-billionth, trillionth, infinity, minus-infinity}
+use Rattle.order.specs.Number.{nought, half, one, one-and-half, two, three, sixteen, two-to-40, millionth, ten-billionth, trillionth, infinity}
 
 -- ---- a / c, rounded once
 pub nought-rounded : nought ≡ round binary64 false 0 1
@@ -76,7 +76,3 @@ trillionth-is = refl
 pub infinity-is : infinity ≡ inf false
 unfolding ofBits
 infinity-is = refl
-
-pub minus-infinity-is : minus-infinity ≡ inf true
-unfolding ofBits
-minus-infinity-is = refl

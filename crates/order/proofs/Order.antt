@@ -99,7 +99,7 @@ under→le (fin false m e) (fin true n d) p q h =
 under→le (fin true m e) (fin false n d) p q h = across (m * up e * down d) (n * up d * down e)
 under→le (fin true m e) (fin true n d) p q h = le→test′ (m * up e * down d) (n * up d * down e) (omega arith)
 
-pub not-lt→under : (x y : Float) → T (finite x) → T (finite y) → T (not (lt y x)) → Under x y
+not-lt→under : (x y : Float) → T (finite x) → T (finite y) → T (not (lt y x)) → Under x y
 unfolding lt
 not-lt→under nan y p q h = absurd p
 not-lt→under (inf s) y p q h = absurd p
@@ -110,7 +110,7 @@ not-lt→under (fin false m e) (fin true n d) p q h = omega (arith, nltb→le 0 
 not-lt→under (fin true m e) (fin false n d) p q h = omega arith
 not-lt→under (fin true m e) (fin true n d) p q h = omega (arith, nltb→le (m * up e * down d) (n * up d * down e) h)
 
-pub under→not-lt : (x y : Float) → T (finite x) → T (finite y) → Under x y → T (not (lt y x))
+under→not-lt : (x y : Float) → T (finite x) → T (finite y) → Under x y → T (not (lt y x))
 unfolding lt
 under→not-lt nan y p q h = absurd p
 under→not-lt (inf s) y p q h = absurd p

@@ -47,9 +47,6 @@ ten-billionth = ofBits binary64 0x3ddb_7cdf_d9d7_bdbb
 abbrev pub trillionth : Float
 trillionth = ofBits binary64 0x3d71_9799_812d_ea11
 
--- +inf and -inf
+-- +inf
 abbrev pub infinity : Float
 infinity = ofBits binary64 0x7ff0_0000_0000_0000
-
-abbrev pub minus-infinity : Float
-minus-infinity = ofBits binary64 0xfff0_0000_0000_0000
