@@ -1,4 +1,4 @@
--- How large a result can be: at most a power of two where its operands are, since rounding keeps the order of sizes and a power of two is its own rounding. So it is finite.
+-- A result is at most a power of two in size where its operands are, and so finite, since rounding keeps the order of sizes and a power of two is its own rounding.
 -- Assumes nothing.
 use mathlib.Core.Path.{_≡_, refl, sym, ap, _∙_}
 use Prim.Native.Nat.{ℕ, zero, suc, _+_, _*_, _^_, _≤_, _<_}

@@ -6,4 +6,5 @@ pub mod Turned
 pub mod Monotone
 pub mod Bounds
 pub mod Pick
+pub mod Absolute
 pub mod Total

@@ -1,5 +1,5 @@
--- A sum, a difference and a product keep the order of their operands, or turn it round, whatever the signs, zeros and infinities included.
--- Of finite operands since rounding keeps the order of fractions; and an infinite operand gives that infinity, or no number. Assumes nothing.
+-- A sum, a difference and a product keep the order of their operands or turn it round, for every sign, zeros and infinities included: rounding keeps the order of fractions, and an infinite operand gives an infinity or a NaN.
+-- Assumes nothing.
 use mathlib.Core.Path.{_≡_, refl}
 use mathlib.Core.Logic.{_⊎_, inl, inr}
 use Prim.Native.Nat.{ℕ, zero, suc, _+_, _*_, _≤_, _<_}
@@ -53,7 +53,7 @@ mul-mono f x y k p q r z h =
     (rw z (mul-cross (gain x) (loss x) (den x) (gain y) (loss y) (den y) (gain k) (den k) (le→under x y p q h)))
     f (mul f x k) (mul f y k) (mul-rounds f x k p r) (mul-rounds f y k q r)
 
--- ---- an operation that leaves an infinite operand as it is keeps the order of all where it keeps that of the finite ones
+-- ---- what leaves an infinity as it is, or gives a NaN, keeps the order of all numbers where it keeps that of the finite ones
 least : (x : Float) → T (real x) → T (le (inf true) x)
 unfolding le
 least nan p = p
@@ -68,7 +68,10 @@ most (inf true) p = tt
 most (inf false) p = tt
 most (fin s m e) p = tt
 
-module _ (g : Float → Float) (ends : (s : Bool) → T (real (g (inf s))) → g (inf s) ≡ inf s) (inner : (x y : Float) → T (finite x) → T (finite y) → T (real (g x)) → T (real (g y)) → T (le x y) → T (le (g x) (g y))) where
+module _
+    (g : Float → Float)
+    (ends : (s : Bool) → T (real (g (inf s))) → g (inf s) ≡ inf s)
+    (inner : (x y : Float) → T (finite x) → T (finite y) → T (real (g x)) → T (real (g y)) → T (le x y) → T (le (g x) (g y))) where
   keeps : (x y : Float) → T (le x y) → T (real (g x)) → T (real (g y)) → T (le (g x) (g y))
   unfolding le
   keeps nan y h p q = absurd h
@@ -82,7 +85,7 @@ module _ (g : Float → Float) (ends : (s : Bool) → T (real (g (inf s))) → g
   keeps (fin s m e) (inf false) h p q = rw (ends false q) (most (g (fin s m e)) p)
   keeps (fin s m e) (fin t n d) h p q = inner (fin s m e) (fin t n d) tt tt p q h
 
--- ---- the sum
+-- ---- the sum of any two numbers, where it is a number
 add-ends : (f : Format) (o : Float) (s : Bool) → T (real (add f (inf s) o)) → add f (inf s) o ≡ inf s
 unfolding add
 add-ends f nan s p = absurd p
@@ -105,7 +108,7 @@ add-inner f (fin u k c) (fin s m e) (fin t n d) p q a b h = add-mono f (fin s m 
 pub add-keeps : (f : Format) (x y o : Float) → T (le x y) → T (real (add f x o)) → T (real (add f y o)) → T (le (add f x o) (add f y o))
 add-keeps f x y o = keeps (λ (z : Float). add f z o) (add-ends f o) (add-inner f o) x y
 
--- ---- the difference
+-- ---- the difference: it grows with what stands left, and shrinks as what is taken away grows
 pub sub-keeps : (f : Format) (x y o : Float) → T (le x y) → T (real (sub f x o)) → T (real (sub f y o)) → T (le (sub f x o) (sub f y o))
 unfolding sub
 sub-keeps f x y o = add-keeps f x y (neg o)
@@ -131,7 +134,7 @@ no-loss (inf s) p h = absurd p
 no-loss (fin false n d) p h = refl
 no-loss (fin true n d) p h = omega (arith, le→under zero′ (fin true n d) tt tt h)
 
--- nothing but a zero that is written as negative is at least one that is not
+-- no value with a plus sign is at most one below zero
 signs : (m : ℕ) (e : ℤ) (n : ℕ) (d : ℤ) → T (le (fin false m e) (fin true (suc n) d)) → ⊥
 signs m e n d h = omega (arith, le→under (fin false m e) (fin true (suc n) d) tt tt h, mul-pos (mul-pos (zero-lt-suc n) (up-pos d)) (down-pos e))
 

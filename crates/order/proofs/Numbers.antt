@@ -1,10 +1,10 @@
--- Each number of specs/Number.antt is the decimal that document 01 writes, rounded once to the nearest `f64`; and what it is as a fraction, which the laws compute with.
+-- Each number of specs/Number.antt is the decimal that document 01 writes, rounded once to the nearest `f64`, by computing both; and what it is as a fraction, which the laws compute with.
 -- Assumes nothing.
 use mathlib.Core.Path.{_≡_, refl}
-use mathlib.Core.Bool.{true, false}
+use mathlib.Core.Bool.{false}
 use Prim.Native.Nat.{_^_}
 use lib.IntN.{pos, negsuc}
-use lib.Ieee.{Float, inf, fin, binary64, ofBits, round}
+use lib.Ieee.{inf, fin, binary64, ofBits, round}
 use Rattle.order.specs.Number.{nought, half, one, one-and-half, two, three, sixteen, two-to-40, millionth, ten-billionth, trillionth, infinity}
 
 -- ---- a / c, rounded once

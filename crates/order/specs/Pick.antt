@@ -1,5 +1,5 @@
 -- The float calls `abs`, `min` and `max`, by document 01's rules. Definitions only.
-use mathlib.Core.Bool.{Bool, true, false, _||_, cond}
+use mathlib.Core.Bool.{false, _||_, cond}
 use lib.Ieee.{Float, nan, inf, fin, lt, isNan}
 
 -- |x|

@@ -3,7 +3,7 @@
 ghost use mathlib.Core.Path.{_≡_};
 ghost use Rattle.order.specs.Number.{infinity};
 ghost use Rattle.order.specs.Pick.{magnitude, lesser, greater};
-ghost use Rattle.order.specs.Total.{totalLess, lessNumber, lessZero, minusZero};
+ghost use Rattle.order.specs.Total.{totalLess, lessNumber, minusZero};
 
 // +inf, which no literal can be.
 pub fn infinity() -> f64

@@ -1,28 +1,22 @@
 -- Each arm returns what `lesser` picks. Assumes nothing.
-use mathlib.Core.Path.{_≡_}
-use mathlib.Core.Bool.{Bool, true, false, cond, _||_}
-use lib.Ieee.{Float, lt, ne}
+use mathlib.Core.Bool.{true, false}
+use lib.Ieee.{lt}
 use Rattle.order.specs.Pick.{lesser}
-use Rattle.order.proofs.Pick.{nan-test}
+use Rattle.order.proofs.Pick.{arm-less, arm-rest}
 use Rattle.order.proofs.lesser.Statement.{statement}
 use Rattle.order.proofs.lesser.Tie as tie
 
-picks-x : (run x : Float) → lt x run ≡ true → x ≡ lesser run x
-unfolding lesser
-picks-x run x p = cc
-
-picks : (run x : Float) (b : Bool) → lt x run ≡ false → ne run run ≡ b → cond b x run ≡ lesser run x
-unfolding lesser
-picks run x b p q = cc (nan-test run)
-
 returns : tie.Need-returns
-returns c = picks-x (c .before .args .run) (c .before .args .x) (c .if1 .taken)
+unfolding lesser
+returns c = let a = c .before .args in arm-less (lt (a .x) (a .run)) (a .run) (a .x) (c .if1 .taken)
 
 returns-2 : tie.Need-returns-2
-returns-2 c = picks (c .before .before .args .run) (c .before .before .args .x) true (c .before .if1 .left) (c .if2 .taken)
+unfolding lesser
+returns-2 c = let a = c .before .before .args in arm-rest (lt (a .x) (a .run)) true (a .run) (a .x) (c .before .if1 .left) (c .if2 .taken)
 
 returns-3 : tie.Need-returns-3
-returns-3 c = picks (c .before .before .args .run) (c .before .before .args .x) false (c .before .if1 .left) (c .if2 .left)
+unfolding lesser
+returns-3 c = let a = c .before .before .args in arm-rest (lt (a .x) (a .run)) false (a .run) (a .x) (c .before .if1 .left) (c .if2 .left)
 
 pub lesser-spec : {M : Type 1} → statement M
 lesser-spec = tie.close (tie.spec returns returns-2 returns-3)

@@ -1,5 +1,5 @@
 -- Below zero the sign is turned; a zero's magnitude is the literal 0.0. Assumes nothing.
-use Rattle.order.proofs.Pick.{magnitude-below, magnitude-zero, magnitude-above}
+use Rattle.order.proofs.Absolute.{magnitude-below, magnitude-zero, magnitude-above}
 use Rattle.order.proofs.magnitude.Statement.{statement}
 use Rattle.order.proofs.magnitude.Tie as tie
 

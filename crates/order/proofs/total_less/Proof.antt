@@ -1,8 +1,8 @@
 -- First by number, then the zeros by their sign. Assumes nothing.
-use mathlib.Core.Path.{_≡_, sym, _∙_, ap}
-use mathlib.Core.Bool.{Bool, true, false, not}
+use mathlib.Core.Path.{sym, _∙_, ap}
+use mathlib.Core.Bool.{not}
 use borrow.Author.Needs.{needs}
-use Rattle.order.specs.Total.{lessNumber, lessZero, minusZero, totalLess}
+use Rattle.order.specs.Total.{lessNumber, lessZero, totalLess}
 use Rattle.order.proofs.Total.{lex-yes, lex-no, lex-next, and-go, and-no}
 use Rattle.order.proofs.total_less.Statement.{statement}
 use Rattle.order.proofs.total_less.Tie as tie
