@@ -1,7 +1,6 @@
 // Axis-aligned boxes. Lesser and greater are document 01's: a NaN yields the other number, and of equal numbers the running one is kept.
 use crate::vector;
 use crate::vector::Vec3;
-
 ghost use mathlib.Core.Path.{_≡_};
 ghost use Rattle.aabb.specs.Bounds.{emptyBox, ofThree, grown, union, center, extent, area, bounded, isEmpty, usable, boxAt};
 
@@ -13,8 +12,11 @@ pub struct Aabb {
 impl Aabb {
     // The cost figures of the builder's choice of a split, as the Rust names them.
     pub const SAH_TRAVERSAL_COST: f64 = 1.0;
+
     pub const SAH_INTERSECTION_COST: f64 = 1.5;
+
     pub const SAH_BINS: u32 = 16;
+
     pub const MAX_LEAF_PRIMITIVES: usize = 4;
 
     // The empty box, from which a box grows: +inf three times, -inf three times.

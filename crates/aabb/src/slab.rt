@@ -1,7 +1,6 @@
 // The slab test of a ray against a box (`ray_aabb_slab_test` and `Aabb::intersect_ray` of the Rust).
 use crate::bounds::Aabb;
 use crate::vector::Ray;
-
 ghost use mathlib.Core.Path.{_≡_};
 ghost use Rattle.aabb.specs.Slab.{reach, parallel, unlessLater, clipped, narrowed, onAxis, ahead, slab};
 

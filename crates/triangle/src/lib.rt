@@ -4,7 +4,6 @@
 use aabb::Aabb;
 use aabb::Ray;
 use aabb::Vec3;
-
 ghost use mathlib.Core.Path.{_≡_};
 ghost use Rattle.triangle.specs.Mesh.{triangleAt, boundsOf, centroidOf, admittedTriangle};
 ghost use Rattle.triangle.specs.Meeting.{distance, hitAt, strike};

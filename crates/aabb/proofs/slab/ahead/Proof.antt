@@ -1,15 +1,15 @@
+-- The test is that of the definition. Assumes nothing.
+use Rattle.aabb.specs.Slab.{ahead}
 use Rattle.aabb.proofs.slab.ahead.Statement.{statement}
 use Rattle.aabb.proofs.slab.ahead.Tie as tie
-use Rattle.aabb.proofs.slab.ahead.Reads as reads
-use Rattle.aabb.proofs.slab.ahead.Lts as lts
 
--- src/slab.rt:105:9
 returns : tie.Need-returns
-returns c = ?
+unfolding ahead
+returns c = rw (c .if1 .taken)
 
--- src/slab.rt:101:1
 returns-2 : tie.Need-returns-2
-returns-2 c = ?
+unfolding ahead
+returns-2 c = rw (c .if1 .left)
 
 pub ahead-spec : {M : Type 1} → statement M
 ahead-spec = tie.close (tie.spec returns returns-2)

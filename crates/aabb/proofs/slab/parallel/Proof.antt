@@ -1,19 +1,19 @@
+-- The tests are those of the definition, in its order. Assumes nothing.
+use Rattle.aabb.specs.Slab.{parallel}
 use Rattle.aabb.proofs.slab.parallel.Statement.{statement}
 use Rattle.aabb.proofs.slab.parallel.Tie as tie
-use Rattle.aabb.proofs.slab.parallel.Reads as reads
-use Rattle.aabb.proofs.slab.parallel.Lts as lts
 
--- src/slab.rt:72:9
 returns : tie.Need-returns
-returns c = ?
+unfolding parallel
+returns c = rw (c .if1 .taken)
 
--- src/slab.rt:75:9
 returns-2 : tie.Need-returns-2
-returns-2 c = ?
+unfolding parallel
+returns-2 c = rw (c .before .if1 .left, c .if2 .taken)
 
--- src/slab.rt:68:1
 returns-3 : tie.Need-returns-3
-returns-3 c = ?
+unfolding parallel
+returns-3 c = rw (c .before .if1 .left, c .if2 .left)
 
 pub parallel-spec : {M : Type 1} → statement M
 parallel-spec = tie.close (tie.spec returns returns-2 returns-3)

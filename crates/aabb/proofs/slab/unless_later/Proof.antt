@@ -1,15 +1,15 @@
+-- The test is that of the definition. Assumes nothing.
+use Rattle.aabb.specs.Slab.{unlessLater}
 use Rattle.aabb.proofs.slab.unless_later.Statement.{statement}
 use Rattle.aabb.proofs.slab.unless_later.Tie as tie
-use Rattle.aabb.proofs.slab.unless_later.Reads as reads
-use Rattle.aabb.proofs.slab.unless_later.Lts as lts
 
--- src/slab.rt:95:9
 returns : tie.Need-returns
-returns c = ?
+unfolding unlessLater
+returns c = rw (c .if1 .taken)
 
--- src/slab.rt:91:1
 returns-2 : tie.Need-returns-2
-returns-2 c = ?
+unfolding unlessLater
+returns-2 c = rw (c .if1 .left)
 
 pub unless-later-spec : {M : Type 1} → statement M
 unless-later-spec = tie.close (tie.spec returns returns-2)

@@ -1,34 +1,36 @@
+-- The tests are those of the definition, in its order. Assumes nothing.
+use mathlib.Core.Path.{sym, _∙_}
+use Rattle.order.proofs.Total.{and-go, and-no}
+use Rattle.aabb.specs.Bounds.{bounded}
 use borrow.Author.Needs.{needs}
 use Rattle.aabb.proofs.bounds.Aabb.bounded.Statement.{statement}
 use Rattle.aabb.proofs.bounds.Aabb.bounded.Tie as tie
-use Rattle.aabb.proofs.bounds.Aabb.bounded.Reads as reads
-use Rattle.aabb.proofs.bounds.Aabb.bounded.Lts as lts
-use Rattle.aabb.proofs.vector.Vec3.at_most.Reads as at-most-reads
-use Rattle.aabb.proofs.vector.Vec3.within.Reads as within-reads
 
--- src/bounds.rt:95:12
 within-requires : tie.Need-within-requires
 within-requires c κs = search needs
 
--- src/bounds.rt:96:16
 within-requires-2 : tie.Need-within-requires-2
 within-requires-2 c κs = search needs
 
--- src/bounds.rt:97:17
 at-most-requires : tie.Need-at-most-requires
 at-most-requires c κs = search needs
 
--- src/bounds.rt:97:17
 returns : tie.Need-returns
-returns c = ?
+unfolding bounded
+returns c =
+    let second = c .before in
+    let first = second .before .before in
+    and-go _ _ _ (sym (first .before .within .ensures) ∙ first .if1 .taken) (and-go _ _ _ (sym (second .before .within2 .ensures) ∙ second .if2 .taken) (c .at-most .ensures))
 
--- src/bounds.rt:99:13
 returns-2 : tie.Need-returns-2
-returns-2 c = ?
+unfolding bounded
+returns-2 c =
+    let first = c .before .before in
+    and-go _ _ _ (sym (first .before .within .ensures) ∙ first .if1 .taken) (and-no _ _ (sym (c .before .within2 .ensures) ∙ c .if2 .left))
 
--- src/bounds.rt:92:5
 returns-3 : tie.Need-returns-3
-returns-3 c = ?
+unfolding bounded
+returns-3 c = and-no _ _ (sym (c .before .within .ensures) ∙ c .if1 .left)
 
 pub bounded-spec : {M : Type 1} → statement M
 bounded-spec =

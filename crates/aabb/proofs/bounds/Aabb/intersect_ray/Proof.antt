@@ -1,60 +1,67 @@
+-- The loop's invariant: the axes that are left, from the interval so far, give the whole answer. Assumes nothing.
+use mathlib.Core.Path.{_≡_, sym, ap, _∙_}
+use Prim.Native.Nat.{_≤_, _<_, _-_}
+use native.Mathlib.Omega.{arith}
+use borrow.Author.Needs.{needs}
+use lib.Ieee.{Float}
+use Rattle.order.specs.Number.{nought}
+use Rattle.aabb.specs.Slab.{slabFrom, slab}
+use Rattle.aabb.proofs.Tests.{slab-end, slab-stop, slab-next}
 use Rattle.aabb.proofs.bounds.Aabb.intersect_ray.Statement.{statement}
 use Rattle.aabb.proofs.bounds.Aabb.intersect_ray.Tie as tie
-use Rattle.aabb.proofs.bounds.Aabb.intersect_ray.Reads as reads
-use Rattle.aabb.proofs.bounds.Aabb.intersect_ray.Lts as lts
-use Rattle.aabb.proofs.slab.ahead.Reads as ahead-reads
-use Rattle.aabb.proofs.slab.on_axis.Reads as on-axis-reads
-use Rattle.order.proofs.infinity.Reads as infinity-reads
 
 abbrev Inv-loop : tie.InvT-loop
-Inv-loop self ray enter₀ exit₀ axis₀ enter exit axis = ?
+Inv-loop self ray enter₀ exit₀ axis₀ enter exit axis = (axis ≤ 3) × (slabFrom ray self (3 - axis) axis enter exit ≡ slab ray self)
 
 abbrev μ-loop : tie.MeasureT-loop
-μ-loop self ray enter₀ exit₀ axis₀ enter exit axis = ?
+μ-loop self ray enter₀ exit₀ axis₀ enter exit axis = 3 - axis
 
--- src/slab.rt:20:13
 infinity-requires : tie.Need-infinity-requires Inv-loop μ-loop
-infinity-requires c κs = ?
+infinity-requires c κs = search needs
 
--- src/slab.rt:22:9
 loop-holds : tie.Need-loop-holds Inv-loop μ-loop
-loop-holds c = ?
+unfolding slab
+loop-holds c = let a = c .before .args in (omega arith, ap (λ (exit : Float). slabFrom (a .ray) (a .self) 3 0 nought exit) (c .infinity .ensures))
 
--- src/slab.rt:24:23
 ahead-requires : tie.Need-ahead-requires Inv-loop μ-loop
-ahead-requires c κs = ?
+ahead-requires c κs = search needs
 
--- src/slab.rt:26:19
 on-axis-requires : tie.Need-on-axis-requires Inv-loop μ-loop
-on-axis-requires c κs = ?
+on-axis-requires c κs = search needs
 
--- src/slab.rt:28:27
 enum-told : tie.Need-enum-told Inv-loop μ-loop
-enum-told c = ?
+enum-told c = search needs
 
--- src/slab.rt:31:28
 enum-known-later : tie.Need-enum-known-later Inv-loop μ-loop
-enum-known-later c = ?
+enum-known-later c = search needs
 
--- src/slab.rt:38:13
 add-axis : tie.Need-add-axis Inv-loop μ-loop
-add-axis c = ?
+add-axis c = omega arith
 
--- src/slab.rt:22:9
 loop-less : tie.Need-loop-less Inv-loop μ-loop
-loop-less c = ?
+loop-less c = omega arith
 
--- src/slab.rt:22:9
 loop-again : tie.Need-loop-again Inv-loop μ-loop
-loop-again c = ?
+loop-again c =
+    let s = c .before .before .before in
+    let l = s .before .before in
+    let a = l .before .before .args in
+    let h : l .loop .axis < 3 = omega arith in
+    (omega arith, slab-next (a .ray) (a .self) (l .loop .axis) (l .loop .enter) (l .loop .exit) _ _ h (sym (s .on-axis .ensures) ∙ c .before .later .given .1) ∙ l .loop .inv .1)
 
--- src/slab.rt:16:5
 returns : tie.Need-returns Inv-loop μ-loop
-returns c = ?
+returns c =
+    let l = c .before .before in
+    let a = l .before .before .args in
+    c .ahead .ensures ∙ sym (slab-end (a .ray) (a .self) (l .loop .axis) (l .loop .enter) (l .loop .exit) (c .before .if1 .taken)) ∙ l .loop .inv .1
 
--- src/slab.rt:16:5
 returns-2 : tie.Need-returns-2 Inv-loop μ-loop
-returns-2 c = ?
+returns-2 c =
+    let s = c .before .before in
+    let l = s .before .before in
+    let a = l .before .before .args in
+    let h : l .loop .axis < 3 = omega arith in
+    slab-stop (a .ray) (a .self) (l .loop .axis) (l .loop .enter) (l .loop .exit) h (sym (s .on-axis .ensures) ∙ c .enum-told .given .1) ∙ l .loop .inv .1
 
 pub intersect-ray-spec : {M : Type 1} → statement M
 intersect-ray-spec =

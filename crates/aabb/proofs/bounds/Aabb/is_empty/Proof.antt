@@ -1,30 +1,31 @@
+-- The tests are those of the definition, in its order. Assumes nothing.
+use Rattle.aabb.proofs.Tests.{empty-both, empty-none}
 use borrow.Author.Needs.{needs}
 use Rattle.aabb.proofs.bounds.Aabb.is_empty.Statement.{statement}
 use Rattle.aabb.proofs.bounds.Aabb.is_empty.Tie as tie
-use Rattle.aabb.proofs.bounds.Aabb.is_empty.Reads as reads
-use Rattle.aabb.proofs.bounds.Aabb.is_empty.Lts as lts
-use Rattle.aabb.proofs.vector.Vec3.all_equal.Reads as all-equal-reads
-use Rattle.order.proofs.infinity.Reads as infinity-reads
 
--- src/bounds.rt:108:13
 infinity-requires : tie.Need-infinity-requires
 infinity-requires c κs = search needs
 
--- src/bounds.rt:109:12
 all-equal-requires : tie.Need-all-equal-requires
 all-equal-requires c κs = search needs
 
--- src/bounds.rt:110:13
 all-equal-requires-2 : tie.Need-all-equal-requires-2
 all-equal-requires-2 c κs = search needs
 
--- src/bounds.rt:110:13
 returns : tie.Need-returns
-returns c = ?
+returns c =
+    let first = c .before .before in
+    let i = first .before in
+    let b = i .before .args .self in
+    empty-both (b .min) (b .max) _ _ _ (i .infinity .ensures) (first .all-equal .ensures) (c .before .if1 .taken) (c .all-equal2 .ensures)
 
--- src/bounds.rt:105:5
 returns-2 : tie.Need-returns-2
-returns-2 c = ?
+returns-2 c =
+    let first = c .before in
+    let i = first .before in
+    let b = i .before .args .self in
+    empty-none (b .min) (b .max) _ _ (i .infinity .ensures) (first .all-equal .ensures) (c .if1 .left)
 
 pub is-empty-spec : {M : Type 1} → statement M
 is-empty-spec =

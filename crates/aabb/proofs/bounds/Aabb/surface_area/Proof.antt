@@ -1,29 +1,36 @@
+-- The tests are those of the definition, in its order. Assumes nothing.
+use mathlib.Core.Path.{sym}
+use Rattle.aabb.proofs.Tests.{or-yes, or-next, area-flat, area-full}
 use borrow.Author.Needs.{needs}
 use Rattle.aabb.proofs.bounds.Aabb.surface_area.Statement.{statement}
 use Rattle.aabb.proofs.bounds.Aabb.surface_area.Tie as tie
-use Rattle.aabb.proofs.bounds.Aabb.surface_area.Reads as reads
-use Rattle.aabb.proofs.bounds.Aabb.surface_area.Lts as lts
-use Rattle.aabb.proofs.bounds.Aabb.extent.Reads as extent-reads
 
--- src/bounds.rt:78:13
 extent-requires : tie.Need-extent-requires
 extent-requires c κs = search needs
 
--- src/bounds.rt:80:13
 returns : tie.Need-returns
-returns c = ?
+returns c = let e = c .before .before in area-flat (e .before .args .self) _ (e .extent .ensures) (or-yes _ _ (c .if1 .taken))
 
--- src/bounds.rt:83:13
 returns-2 : tie.Need-returns-2
-returns-2 c = ?
+returns-2 c =
+    let one = c .before .before in
+    let e = one .before .before in
+    area-flat (e .before .args .self) _ (e .extent .ensures) (or-next _ _ _ (one .if1 .left) (or-yes _ _ (c .if2 .taken)))
 
--- src/bounds.rt:86:13
 returns-3 : tie.Need-returns-3
-returns-3 c = ?
+returns-3 c =
+    let two = c .before .before in
+    let one = two .before .before in
+    let e = one .before .before in
+    area-flat (e .before .args .self) _ (e .extent .ensures) (or-next _ _ _ (one .if1 .left) (or-next _ _ _ (two .if2 .left) (sym (c .if3 .taken))))
 
--- src/bounds.rt:75:5
 returns-4 : tie.Need-returns-4
-returns-4 c = ?
+returns-4 c =
+    let three = c .before .before .before in
+    let two = three .before .before in
+    let one = two .before .before in
+    let e = one .before .before in
+    area-full (e .before .args .self) _ (e .extent .ensures) (or-next _ _ _ (one .if1 .left) (or-next _ _ _ (two .if2 .left) (sym (three .if3 .left))))
 
 pub surface-area-spec : {M : Type 1} → statement M
 surface-area-spec = tie.close (tie.spec extent-requires returns returns-2 returns-3 returns-4)

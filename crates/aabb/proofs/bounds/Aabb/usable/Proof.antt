@@ -1,26 +1,24 @@
+-- The tests are those of the definition, in its order. Assumes nothing.
+use mathlib.Core.Path.{sym, _∙_}
+use Rattle.aabb.specs.Bounds.{usable}
+use Rattle.aabb.proofs.Tests.{or-yes, or-next}
 use borrow.Author.Needs.{needs}
 use Rattle.aabb.proofs.bounds.Aabb.usable.Statement.{statement}
 use Rattle.aabb.proofs.bounds.Aabb.usable.Tie as tie
-use Rattle.aabb.proofs.bounds.Aabb.usable.Reads as reads
-use Rattle.aabb.proofs.bounds.Aabb.usable.Lts as lts
-use Rattle.aabb.proofs.bounds.Aabb.bounded.Reads as bounded-reads
-use Rattle.aabb.proofs.bounds.Aabb.is_empty.Reads as is-empty-reads
 
--- src/bounds.rt:119:12
 bounded-requires : tie.Need-bounded-requires
 bounded-requires c κs = search needs
 
--- src/bounds.rt:120:13
 returns : tie.Need-returns
-returns c = ?
+unfolding usable
+returns c = or-yes _ _ (sym (c .before .bounded .ensures) ∙ c .if1 .taken)
 
--- src/bounds.rt:122:9
 is-empty-requires : tie.Need-is-empty-requires
 is-empty-requires c κs = search needs
 
--- src/bounds.rt:116:5
 returns-2 : tie.Need-returns-2
-returns-2 c = ?
+unfolding usable
+returns-2 c = or-next _ _ _ (sym (c .before .before .bounded .ensures) ∙ c .before .if1 .left) (c .is-empty .ensures)
 
 pub usable-spec : {M : Type 1} → statement M
 usable-spec = tie.close (tie.spec bounded-requires returns is-empty-requires returns-2)

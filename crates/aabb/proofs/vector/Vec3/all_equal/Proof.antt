@@ -1,19 +1,21 @@
+-- The tests are those of the definition, in its order. Assumes nothing.
+use mathlib.Core.Path.{refl}
+use Rattle.order.proofs.Total.{and-go, and-no}
+use Rattle.aabb.specs.Vector.{allEqual}
 use Rattle.aabb.proofs.vector.Vec3.all_equal.Statement.{statement}
 use Rattle.aabb.proofs.vector.Vec3.all_equal.Tie as tie
-use Rattle.aabb.proofs.vector.Vec3.all_equal.Reads as reads
-use Rattle.aabb.proofs.vector.Vec3.all_equal.Lts as lts
 
--- src/vector.rt:152:17
 returns : tie.Need-returns
-returns c = ?
+unfolding allEqual
+returns c = let second = c .before in and-go _ _ _ (second .before .before .if1 .taken) (and-go _ _ _ (second .if2 .taken) refl)
 
--- src/vector.rt:154:13
 returns-2 : tie.Need-returns-2
-returns-2 c = ?
+unfolding allEqual
+returns-2 c = and-go _ _ _ (c .before .before .if1 .taken) (and-no _ _ (c .if2 .left))
 
--- src/vector.rt:147:5
 returns-3 : tie.Need-returns-3
-returns-3 c = ?
+unfolding allEqual
+returns-3 c = and-no _ _ (c .if1 .left)
 
 pub all-equal-spec : {M : Type 1} → statement M
 all-equal-spec = tie.close (tie.spec returns returns-2 returns-3)

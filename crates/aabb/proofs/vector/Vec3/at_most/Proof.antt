@@ -1,19 +1,21 @@
+-- The tests are those of the definition, in its order. Assumes nothing.
+use mathlib.Core.Path.{refl}
+use Rattle.order.proofs.Total.{and-go, and-no}
+use Rattle.aabb.specs.Vector.{allAtMost}
 use Rattle.aabb.proofs.vector.Vec3.at_most.Statement.{statement}
 use Rattle.aabb.proofs.vector.Vec3.at_most.Tie as tie
-use Rattle.aabb.proofs.vector.Vec3.at_most.Reads as reads
-use Rattle.aabb.proofs.vector.Vec3.at_most.Lts as lts
 
--- src/vector.rt:139:17
 returns : tie.Need-returns
-returns c = ?
+unfolding allAtMost
+returns c = let second = c .before .before in and-go _ _ _ (second .before .before .before .if1 .taken) (and-go _ _ _ (second .if2 .taken) refl)
 
--- src/vector.rt:141:13
 returns-2 : tie.Need-returns-2
-returns-2 c = ?
+unfolding allAtMost
+returns-2 c = and-go _ _ _ (c .before .before .before .if1 .taken) (and-no _ _ (c .if2 .left))
 
--- src/vector.rt:134:5
 returns-3 : tie.Need-returns-3
-returns-3 c = ?
+unfolding allAtMost
+returns-3 c = and-no _ _ (c .if1 .left)
 
 pub at-most-spec : {M : Type 1} → statement M
 at-most-spec = tie.close (tie.spec returns returns-2 returns-3)

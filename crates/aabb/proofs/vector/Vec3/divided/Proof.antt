@@ -1,11 +1,12 @@
+-- The code is the definition. Assumes nothing.
+use mathlib.Core.Path.{refl}
+use Rattle.aabb.specs.Vector.{divided}
 use Rattle.aabb.proofs.vector.Vec3.divided.Statement.{statement}
 use Rattle.aabb.proofs.vector.Vec3.divided.Tie as tie
-use Rattle.aabb.proofs.vector.Vec3.divided.Reads as reads
-use Rattle.aabb.proofs.vector.Vec3.divided.Lts as lts
 
--- src/vector.rt:59:5
 returns : tie.Need-returns
-returns c = ?
+unfolding divided
+returns c = refl
 
 pub divided-spec : {M : Type 1} → statement M
 divided-spec = tie.close (tie.spec returns)

@@ -1,11 +1,12 @@
+-- The code is the definition. Assumes nothing.
+use mathlib.Core.Path.{refl}
+use Rattle.aabb.specs.Vector.{minus}
 use Rattle.aabb.proofs.vector.Vec3.minus.Statement.{statement}
 use Rattle.aabb.proofs.vector.Vec3.minus.Tie as tie
-use Rattle.aabb.proofs.vector.Vec3.minus.Reads as reads
-use Rattle.aabb.proofs.vector.Vec3.minus.Lts as lts
 
--- src/vector.rt:26:5
 returns : tie.Need-returns
-returns c = ?
+unfolding minus
+returns c = refl
 
 pub minus-spec : {M : Type 1} → statement M
 minus-spec = tie.close (tie.spec returns)

@@ -1,0 +1,132 @@
+-- What the code of vectors, boxes and slabs tests is what the definitions say: one law for each kind of branch. Assumes nothing.
+use mathlib.Core.Path.{_≡_, refl, sym, ap, _∙_}
+use Prim.Native.Nat.{ℕ, zero, suc, _+_, _-_, _*_, _/_, _≤_, _<_, min}
+use native.Mathlib.Nat.{add-assoc, add-zero, mul-zero, mul-le-mul-right, div-mul-le-self, lt-div-mul-add}
+use native.Mathlib.Omega.{arith, min-cases}
+use mathlib.Core.Bool.{Bool, true, false, _&&_, _||_, cond}
+use mathlib.Core.List.{List}
+use lib.ListN.{length, getD, List·getD-eq-default}
+use lib.Ieee.{Float, nan, binary64, ofBits, add, sub, mul, div, neg, lt, le}
+use Rattle.order.specs.Number.{nought, one, two, trillionth, infinity}
+use Rattle.order.specs.Pick.{magnitude}
+use Rattle.order.proofs.Total.{and-go, and-no}
+use Rattle.aabb.specs.declared.vector.Vec3.{Vec3}
+use Rattle.aabb.specs.declared.bounds.Aabb.{Aabb}
+use Rattle.aabb.specs.declared.vector.Ray.{Ray}
+use Rattle.aabb.specs.declared.slab.Span.{Span}
+use Rattle.aabb.specs.declared.slab.Span.the-variants.{Passed, Missed}
+use Rattle.aabb.specs.Vector.{vec, along, within, allEqual, numberAt, vectorAt}
+use Rattle.aabb.specs.Bounds.{extent, area, areaOf, isEmpty, box}
+use Rattle.aabb.specs.Slab.{reach, parallel, clipped, narrowed, andThen, ahead, onAxis, slabFrom}
+
+-- ---- two tests in a row
+pub or-yes : (a b : Bool) → a ≡ true → true ≡ (a || b)
+or-yes a b p = rw p
+
+pub or-next : (a b t : Bool) → a ≡ false → t ≡ b → t ≡ (a || b)
+or-next a b t p q = rw p q
+
+-- ---- vectors
+pub tested : (m x limit : Float) (t : Bool) → m ≡ magnitude x → le m limit ≡ t → within limit x ≡ t
+unfolding within
+tested m x limit t p q = rw (← p) q
+
+pub along-rest : (axis : ℕ) (a : Vec3) → (axis ≡ 0 → ⊥) → (axis ≡ 1 → ⊥) → a .z ≡ along axis a
+unfolding along
+along-rest zero a p q = absurd (p refl)
+along-rest (suc zero) a p q = absurd (q refl)
+along-rest (suc (suc k)) a p q = refl
+
+-- ---- boxes
+pub empty-both : (a b : Vec3) (i : Float) (s t : Bool) → i ≡ infinity → s ≡ allEqual i a → s ≡ true → t ≡ allEqual (neg i) b → t ≡ isEmpty (box a b)
+unfolding isEmpty
+empty-both a b i s t p q h r = rw (← p) (and-go _ _ _ (sym q ∙ h) r)
+
+pub empty-none : (a b : Vec3) (i : Float) (s : Bool) → i ≡ infinity → s ≡ allEqual i a → s ≡ false → false ≡ isEmpty (box a b)
+unfolding isEmpty
+empty-none a b i s p q h = rw (← p) (and-no _ _ (sym q ∙ h))
+
+abbrev pub Negative : Vec3 → Bool
+Negative d = lt (d .x) nought || (lt (d .y) nought || lt (d .z) nought)
+
+pub area-flat : (b : Aabb) (d : Vec3) → d ≡ extent b → true ≡ Negative d → nought ≡ area b
+unfolding area areaOf
+area-flat b d p q = rw (← p, ← q)
+
+pub area-full : (b : Aabb) (d : Vec3) → d ≡ extent b → false ≡ Negative d
+    → mul binary64 two (add binary64 (add binary64 (mul binary64 (d .x) (d .y)) (mul binary64 (d .y) (d .z))) (mul binary64 (d .z) (d .x))) ≡ area b
+unfolding area areaOf
+area-full b d p q = rw (← p, ← q)
+
+-- ---- slabs
+pub along-slab : (o d lo hi enter exit m : Float) (s : Span) → m ≡ magnitude d → lt m trillionth ≡ true → s ≡ parallel o lo hi enter exit → s ≡ narrowed o d lo hi enter exit
+unfolding narrowed
+along-slab o d lo hi enter exit m s p q r = rw (← p, q) r
+
+pub through-slab : (o d lo hi enter exit m : Float) (s : Span) → m ≡ magnitude d → lt m trillionth ≡ false
+    → s ≡ clipped (mul binary64 (sub binary64 lo o) (div binary64 one d)) (mul binary64 (sub binary64 hi o) (div binary64 one d)) enter exit
+    → s ≡ narrowed o d lo hi enter exit
+unfolding narrowed reach
+through-slab o d lo hi enter exit m s p q r = rw (← p, q) r
+
+-- with all axes done, with an axis that rules the box out, and with one that does not
+pub slab-end : (r : Ray) (b : Aabb) (axis : ℕ) (enter exit : Float) → axis ≡ 3 → slabFrom r b (3 - axis) axis enter exit ≡ ahead enter exit
+unfolding slabFrom
+slab-end r b axis enter exit p = rw p
+
+slab-opens : (r : Ray) (b : Aabb) (axis : ℕ) (enter exit : Float) → axis < 3 → slabFrom r b (3 - axis) axis enter exit ≡ andThen (onAxis r b axis enter exit) (slabFrom r b (3 - (axis + 1)) (axis + 1))
+unfolding slabFrom
+slab-opens r b zero enter exit h = refl
+slab-opens r b (suc zero) enter exit h = refl
+slab-opens r b (suc (suc zero)) enter exit h = refl
+slab-opens r b (suc (suc (suc k))) enter exit h = absurd (omega arith)
+
+pub slab-stop : (r : Ray) (b : Aabb) (axis : ℕ) (enter exit : Float) → axis < 3 → onAxis r b axis enter exit ≡ Missed → Missed ≡ slabFrom r b (3 - axis) axis enter exit
+unfolding andThen
+slab-stop r b axis enter exit h p = rw (slab-opens r b axis enter exit h, p)
+
+pub slab-next : (r : Ray) (b : Aabb) (axis : ℕ) (enter exit later sooner : Float) → axis < 3 → onAxis r b axis enter exit ≡ Passed later sooner
+    → slabFrom r b (3 - (axis + 1)) (axis + 1) later sooner ≡ slabFrom r b (3 - axis) axis enter exit
+unfolding andThen
+slab-next r b axis enter exit later sooner h p = rw (slab-opens r b axis enter exit h, p)
+
+-- ---- numbers of a lent slice
+nan-is : div binary64 (ofBits binary64 0) (ofBits binary64 0) ≡ nan
+unfolding div ofBits
+nan-is = refl
+
+pub beyond-end : (l : List Float) (k : ℕ) → length l ≤ k → div binary64 (ofBits binary64 0) (ofBits binary64 0) ≡ numberAt l k
+beyond-end l k h = nan-is ∙ sym (List·getD-eq-default l nan h)
+
+-- three places from `at` on that all lie beyond the end
+pub beyond-three : (l : List Float) (at : ℕ) (x : Float) → x ≡ numberAt l (length l) → length l ≤ at → vec x x x ≡ vectorAt l at
+unfolding vectorAt
+beyond-three l at x p h =
+    let none : x ≡ nan = p ∙ List·getD-eq-default l nan {n = length l} (omega arith) in
+    rw (none, List·getD-eq-default l nan {n = at} h, List·getD-eq-default l nan {n = at + 1} (omega arith), List·getD-eq-default l nan {n = at + 2} (omega arith))
+
+-- from the end on there is no number, so a record that would start beyond it may as well start there
+number-from : (l : List Float) (a k : ℕ) → numberAt l (min a (length l) + k) ≡ numberAt l (a + k)
+number-from l a k =
+    min-cases a (length l) (numberAt l (min a (length l) + k) ≡ numberAt l (a + k)) (λ h e. rw e)
+    (λ h e. rw (e, List·getD-eq-default l nan {n = length l + k} (omega arith), List·getD-eq-default l nan {n = a + k} (omega arith)))
+
+pub vector-from : (l : List Float) (a k : ℕ) → vectorAt l (min a (length l) + k) ≡ vectorAt l (a + k)
+unfolding vectorAt
+vector-from l a k = simp add-assoc (rw (number-from l a k, number-from l a (k + 1), number-from l a (k + 2)))
+
+pub vector-start : (l : List Float) (a : ℕ) → vectorAt l (min a (length l)) ≡ vectorAt l a
+vector-start l a = rw (← add-zero (min a (length l)), vector-from l a 0, add-zero a)
+
+-- ---- where a record starts
+pub place-none : (i w n : ℕ) → w ≡ 0 → 0 ≡ min (i * w) n
+place-none i w n p = rw (p, mul-zero i) (omega arith)
+
+pub place-whole : (i w n : ℕ) → (w ≡ 0 → ⊥) → i ≤ n / w → i * w ≤ n
+place-whole i w n p h = let k = mul-le-mul-right w h in omega (arith, div-mul-le-self n w)
+
+pub place-end : (i w n : ℕ) → (w ≡ 0 → ⊥) → n / w < i → n ≤ i * w
+place-end i w n p h = let k = mul-le-mul-right w h in omega (arith, lt-div-mul-add {a = n} {b = w} (omega arith))
+
+pub box-starts : (l : List Float) (a at : ℕ) (lo hi : Vec3) → at ≡ min a (length l) → lo ≡ vectorAt l at → hi ≡ vectorAt l (at + 3) → box lo hi ≡ box (vectorAt l a) (vectorAt l (a + 3))
+box-starts l a at lo hi p q r = cc (vector-start l a, vector-from l a 3)
