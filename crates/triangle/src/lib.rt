@@ -119,21 +119,21 @@ impl Triangle {
         ensures { λ r. ⌜ r ≡ hitAt ray self number t ⌝ }
     {
         let point = ray.at(t);
-        let front = ray.direction.dot(self.normal) < 0.0;
-        if front {
+        let normal = self.normal;
+        if ray.direction.dot(normal) < 0.0 {
             return Hit {
                 t,
                 point,
-                normal: self.normal,
+                normal,
                 front: true,
                 triangle: number,
             };
         }
-        let normal = self.normal.negated();
+        let turned = normal.negated();
         Hit {
             t,
             point,
-            normal,
+            normal: turned,
             front: false,
             triangle: number,
         }
