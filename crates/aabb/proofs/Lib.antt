@@ -1,1 +1,4 @@
 pub mod Tests
+pub mod Axis
+pub mod Inside
+pub mod Holds

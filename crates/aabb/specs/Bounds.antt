@@ -53,6 +53,10 @@ usable b = bounded b || isEmpty b
 unfoldable pub contains : Aabb → Aabb → Bool
 contains b a = allAtMost (b .min) (a .min) && allAtMost (a .max) (b .max)
 
+-- the box numerically holds the point
+unfoldable pub holds : Aabb → Vec3 → Bool
+holds b p = allAtMost (b .min) p && allAtMost p (b .max)
+
 -- box i of a lent slice: min x, y, z, max x, y, z
 unfoldable pub boxAt : List Float → ℕ → Aabb
 boxAt numbers i = box (vectorAt numbers (i * 6)) (vectorAt numbers (i * 6 + 3))
