@@ -6,7 +6,7 @@ use mathlib.Core.Bool.{Bool, true, false, not, _&&_, _||_, cond}
 use Prim.Native.Nat.{ℕ, zero, suc}
 use lib.IntN.{pos}
 use lib.Dec.{T}
-use lib.Ieee.{Float, nan, inf, fin, binary64, sub, mul, div, lt, le, isNan}
+use lib.Ieee.{Float, nan, inf, fin, binary64, sub, mul, div, lt, le, eq, isNan}
 use lib.Ieee.Fits.{and-l, and-r}
 use lib.Ieee.Scale.{finite}
 use Rattle.order.specs.Number.{real, nought, one, two, two-to-40, trillionth, infinity}
@@ -20,10 +20,10 @@ use Rattle.aabb.specs.declared.vector.Ray.{Ray}
 use Rattle.aabb.specs.declared.bounds.Aabb.{Aabb}
 use Rattle.aabb.specs.declared.slab.Span.{Span}
 use Rattle.aabb.specs.declared.slab.Span.the-variants.{Passed, Missed}
-use Rattle.aabb.specs.Vector.{along, admittedRay}
-use Rattle.aabb.specs.Bounds.{bounded, contains}
+use Rattle.aabb.specs.Vector.{along, allEqual, admittedRay}
+use Rattle.aabb.specs.Bounds.{bounded, isEmpty, usable, contains}
 use Rattle.aabb.specs.Slab.{reach, first, second, parallel, unlessLater, clipped, narrowed, andThen, ahead, onAxis, slabFrom, slab, isPassed, passes}
-use Rattle.aabb.proofs.Axis.{within-along, at-most-along}
+use Rattle.aabb.proofs.Axis.{all-along, within-along, at-most-along}
 
 nought-real : T (le nought nought)
 nought-real = rw nought-is (le-refl (fin false 0 (pos 0)) tt)
@@ -255,3 +255,28 @@ module _ (r : Ray) (b a : Aabb) (R : T (admittedRay r)) (B : T (bounded b)) (A :
 
   pub inside : T (passes r a) → T (passes r b)
   inside h = wider-passed (slab r b) (slab r a) slab-wider h
+
+-- ---- the outer box may be any usable one: the empty box contains no bounded one
+infinite-below : (x y : Float) → T (eq x (inf false)) → T (le x y) → T (finite y) → ⊥
+unfolding eq le
+infinite-below nan y p h q = p
+infinite-below (fin s m e) y p h q = p
+infinite-below (inf true) y p h q = p
+infinite-below (inf false) nan p h q = q
+infinite-below (inf false) (inf t) p h q = q
+infinite-below (inf false) (fin t n d) p h q = h
+
+empty-contains : (b a : Aabb) → T (isEmpty b) → T (bounded a) → T (contains b a) → ⊥
+unfolding isEmpty allEqual bounded contains along
+empty-contains b a e A H =
+    infinite-below (b .min .x) (a .min .x) (rw infinity-is at (all-along (λ x. eq x infinity) (b .min) 0 (search (and-l, and-r)))) (at-most-along (b .min) (a .min) 0 (search (and-l, and-r)))
+    (two-to-40-finite (a .min .x) (within-along two-to-40 0 (a .min) (search (and-l, and-r))))
+
+-- a ray that passes a bounded box passes every usable box that contains it
+pub usable-inside : (r : Ray) (b a : Aabb) → T (admittedRay r) → T (usable b) → T (bounded a) → T (contains b a) → T (passes r a) → T (passes r b)
+unfolding usable
+usable-inside r b a R B A H = go (bounded b) (λ h. inside r b a R h A H) B
+  where
+    go : (t : Bool) → (T t → T (passes r a) → T (passes r b)) → T (t || isEmpty b) → T (passes r a) → T (passes r b)
+    go true f h = f tt
+    go false f h = absurd (empty-contains b a h A H)
