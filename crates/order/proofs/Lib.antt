@@ -8,3 +8,4 @@ pub mod Bounds
 pub mod Pick
 pub mod Absolute
 pub mod Total
+pub mod Patterns

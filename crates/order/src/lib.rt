@@ -1,6 +1,7 @@
 // The float calls that Rattle lacks, by document 01's rules: the infinity, `abs`, `min`, `max` and `total_cmp`.
 // Each answers on every f64. The laws of the order and of rounding, which the other layers cite, stand in proofs/.
 ghost use mathlib.Core.Path.{_≡_};
+ghost use lib.Ieee.{binary64, toBits, ofBits};
 ghost use Rattle.order.specs.Number.{infinity};
 ghost use Rattle.order.specs.Pick.{magnitude, lesser, greater};
 ghost use Rattle.order.specs.Total.{totalLess, lessNumber, minusZero};
@@ -88,4 +89,27 @@ pub fn total_less(x: f64, y: f64) -> bool
         return !minus_zero(y);
     }
     false
+}
+
+// The bit pattern of x; of a NaN the one with the sign clear and only the highest digit set.
+pub fn bits(x: f64) -> u64
+    ensures { λ r. ⌜ r ≡ toBits binary64 x ⌝ }
+{
+    if x != x {
+        return 0x7ff8_0000_0000_0000;
+    }
+    f64::to_bits(x)
+}
+
+// The number that a bit pattern stands for; the pattern of a NaN becomes the NaN.
+pub fn from_bits(pattern: u64) -> f64
+    ensures { λ r. ⌜ r ≡ ofBits binary64 pattern ⌝ }
+{
+    if pattern % 0x8000_0000_0000_0000 / 0x10_0000_0000_0000 == 2047 {
+        if pattern % 0x10_0000_0000_0000 == 0 {
+            return f64::from_bits(pattern);
+        }
+        return 0.0 / 0.0;
+    }
+    f64::from_bits(pattern)
 }
