@@ -1,0 +1,247 @@
+// Runs the ground layer (order, aabb, triangle) on values where zeros, infinities, NaNs and subnormals matter, and prints each answer by
+// its bits. What it prints is held to the file stdout beside it.
+use aabb::Aabb;
+use aabb::Ray;
+use aabb::Span;
+use aabb::Vec3;
+use triangle::Found;
+use triangle::Triangle;
+
+fn main() {
+    orders(0x0000_0000_0000_0000);
+    orders(0x8000_0000_0000_0000);
+    orders(0x0000_0000_0000_0001);
+    orders(0xbff0_0000_0000_0000);
+    orders(0x7fef_ffff_ffff_ffff);
+    orders(0x7ff0_0000_0000_0000);
+    orders(0xfff0_0000_0000_0000);
+    orders(0x7ff4_0000_0000_0000);
+    boxes();
+    slabs();
+    triangles();
+    reading();
+}
+
+// ---- printing
+fn number(x: f64) {
+    io::write_all(1, b" ");
+    io::print_hex(1, order::bits(x), 16);
+}
+
+fn flag(yes: bool) {
+    if yes {
+        io::write_all(1, b" yes");
+    } else {
+        io::write_all(1, b" no");
+    }
+}
+
+fn vector(v: Vec3) {
+    number(v.x);
+    number(v.y);
+    number(v.z);
+}
+
+fn end() {
+    io::write_all(1, b"\n");
+}
+
+// ---- order
+// Lesser, greater and total order of x with eight numbers, and its magnitude.
+fn orders(pattern: u64) {
+    let x = order::from_bits(pattern);
+    io::write_all(1, b"magnitude");
+    number(x);
+    number(order::magnitude(x));
+    end();
+    pair(x, 0.0);
+    pair(x, -0.0);
+    pair(x, 5e-324);
+    pair(x, -1.0);
+    pair(x, 1.7976931348623157e308);
+    pair(x, order::infinity());
+    pair(x, -order::infinity());
+    pair(x, order::from_bits(0x7ff8_0000_0000_0000));
+}
+
+fn pair(x: f64, y: f64) {
+    io::write_all(1, b"lesser, greater, before");
+    number(x);
+    number(y);
+    number(order::lesser(x, y));
+    number(order::greater(x, y));
+    flag(order::total_less(x, y));
+    end();
+}
+
+// ---- boxes
+fn show_box(b: Aabb) {
+    io::write_all(1, b"box");
+    vector(b.min);
+    vector(b.max);
+    end();
+    io::write_all(1, b"  center, extent, area");
+    vector(b.center());
+    vector(b.extent());
+    number(b.surface_area());
+    end();
+    io::write_all(1, b"  bounded, empty, usable");
+    flag(b.bounded());
+    flag(b.is_empty());
+    flag(b.usable());
+    end();
+}
+
+fn boxes() {
+    let nan = order::from_bits(0x7ff8_0000_0000_0000);
+    let zero = Vec3 {
+        x: 0.0,
+        y: -0.0,
+        z: 0.0,
+    };
+    let turned = Vec3 {
+        x: -0.0,
+        y: 0.0,
+        z: nan,
+    };
+    let high = Vec3 {
+        x: 1.0,
+        y: 2.0,
+        z: 1099511627776.0,
+    };
+    let beyond = Vec3 {
+        x: 1.0,
+        y: 2.0,
+        z: 1099511627776.0001,
+    };
+    let tiny = Vec3 {
+        x: 5e-324,
+        y: -5e-324,
+        z: 2.2250738585072014e-308,
+    };
+    let e = Aabb::empty();
+    show_box(e);
+    show_box(e.grow(zero));
+    show_box(e.grow(zero).grow(turned));
+    show_box(e.grow(turned).grow(zero));
+    show_box(Aabb::from_points(zero, high, tiny));
+    show_box(Aabb::from_points(zero, beyond, tiny));
+    show_box(e.union(Aabb::from_points(tiny, tiny, tiny)));
+    show_box(Aabb { min: high, max: zero });
+    show_box(Aabb { min: zero, max: turned });
+}
+
+// ---- the slab test
+fn slab(b: Aabb, ray: Ray) {
+    io::write_all(1, b"slab");
+    match b.intersect_ray(ray) {
+        Span::Missed => {
+            io::write_all(1, b" missed");
+        }
+        Span::Passed { enter, exit } => {
+            number(enter);
+            number(exit);
+        }
+    }
+    flag(ray.admitted());
+    end();
+}
+
+fn slabs() {
+    let nan = order::from_bits(0x7ff8_0000_0000_0000);
+    let inf = order::infinity();
+    let low = Vec3 { x: 0.0, y: 0.0, z: 0.0 };
+    let high = Vec3 { x: 1.0, y: 1.0, z: 1.0 };
+    let unit = Aabb { min: low, max: high };
+    let above = Vec3 { x: 0.5, y: 0.5, z: 2.0 };
+    let down = Vec3 { x: 0.0, y: 0.0, z: -1.0 };
+    let ones = Vec3 { x: 1.0, y: 1.0, z: 1.0 };
+    // P8: |dir| below 1e-12 is parallel, 2^-39 is not
+    slab(unit, Ray { origin: above, direction: Vec3 { x: 0.0, y: 0.0, z: -9.094947017729282e-13 } });
+    slab(unit, Ray { origin: above, direction: Vec3 { x: 0.0, y: 0.0, z: -1.8189894035458565e-12 } });
+    // P1: the empty box
+    slab(Aabb::empty(), Ray { origin: above, direction: ones });
+    slab(Aabb::empty(), Ray { origin: above, direction: down });
+    // -0, a subnormal, an infinite and a NaN direction
+    slab(unit, Ray { origin: above, direction: Vec3 { x: -0.0, y: 5e-324, z: -1.0 } });
+    slab(unit, Ray { origin: above, direction: Vec3 { x: 0.0, y: 0.0, z: -inf } });
+    slab(unit, Ray { origin: above, direction: Vec3 { x: nan, y: 0.0, z: -1.0 } });
+    // on a plane, behind, beside
+    slab(unit, Ray { origin: high, direction: down });
+    slab(unit, Ray { origin: above, direction: ones });
+    slab(unit, Ray { origin: Vec3 { x: 2.0, y: 0.5, z: 2.0 }, direction: down });
+    // a box with a NaN, one without end, and one whose sides are exchanged
+    slab(Aabb { min: Vec3 { x: nan, y: 0.0, z: 0.0 }, max: high }, Ray { origin: above, direction: down });
+    slab(Aabb { min: Vec3 { x: -inf, y: -inf, z: -inf }, max: high }, Ray { origin: low, direction: ones });
+    slab(Aabb { min: high, max: low }, Ray { origin: above, direction: down });
+}
+
+// ---- triangles
+fn meet(a: Triangle, ray: Ray, k: u32) {
+    io::write_all(1, b"triangle ");
+    io::print_decimal(1, k as u64);
+    flag(a.admitted());
+    match a.intersect(ray, k) {
+        Found::Nothing => {
+            io::write_all(1, b" nothing");
+        }
+        Found::At(hit) => {
+            number(hit.t);
+            vector(hit.point);
+            vector(hit.normal);
+            flag(hit.front);
+        }
+    }
+    end();
+}
+
+fn triangles() {
+    let nan = order::from_bits(0x7ff8_0000_0000_0000);
+    let inf = order::infinity();
+    let v0 = Vec3 { x: 0.0, y: 0.0, z: 0.0 };
+    let v1 = Vec3 { x: 1.0, y: 0.0, z: 0.0 };
+    let v2 = Vec3 { x: 0.0, y: 1.0, z: 0.0 };
+    let normal = Vec3 { x: 0.0, y: 0.0, z: 1.0 };
+    let a = Triangle { v0, v1, v2, normal };
+    let down = Vec3 { x: 0.0, y: 0.0, z: -1.0 };
+    let up = Vec3 { x: 0.0, y: 0.0, z: 1.0 };
+    // P2 to P7
+    meet(a, Ray { origin: Vec3 { x: 0.25, y: 0.25, z: 1.0 }, direction: down }, 2);
+    meet(a, Ray { origin: Vec3 { x: 0.25, y: 0.25, z: -1.0 }, direction: up }, 3);
+    meet(a, Ray { origin: Vec3 { x: 0.75, y: 0.75, z: 1.0 }, direction: down }, 4);
+    meet(a, Ray { origin: Vec3 { x: 2.0, y: 0.25, z: 1.0 }, direction: down }, 5);
+    meet(a, Ray { origin: Vec3 { x: 0.5, y: 0.5, z: 1.0 }, direction: down }, 6);
+    meet(a, Ray { origin: Vec3 { x: 0.25, y: 0.25, z: 9.5367431640625e-7 }, direction: down }, 7);
+    meet(a, Ray { origin: Vec3 { x: 0.25, y: 0.25, z: 1.9073486328125e-6 }, direction: down }, 7);
+    // a NaN u misses, a NaN v passes
+    meet(a, Ray { origin: Vec3 { x: nan, y: 0.25, z: 1.0 }, direction: down }, 8);
+    meet(a, Ray { origin: Vec3 { x: 0.25, y: 0.25, z: inf }, direction: down }, 9);
+    // direction·normal = 0 is no front; a zero direction; a triangle without area; one that is not admitted
+    meet(Triangle { v0, v1, v2, normal: v0 }, Ray { origin: Vec3 { x: 0.25, y: 0.25, z: 1.0 }, direction: down }, 10);
+    meet(a, Ray { origin: Vec3 { x: 0.25, y: 0.25, z: 1.0 }, direction: v0 }, 11);
+    meet(Triangle { v0, v1, v2: v1, normal }, Ray { origin: Vec3 { x: 0.25, y: 0.25, z: 1.0 }, direction: down }, 12);
+    meet(Triangle { v0, v1, v2, normal: Vec3 { x: 0.0, y: 0.0, z: 2.0000000000000004 } }, Ray { origin: Vec3 { x: 0.25, y: 0.25, z: 1.0 }, direction: down }, 13);
+    io::write_all(1, b"centroid");
+    vector(a.centroid());
+    vector(Triangle { v0: v1, v1, v2, normal }.centroid());
+    end();
+}
+
+// ---- numbers of a lent slice, and beyond its end
+fn reading() {
+    let numbers = [1.0, 2.0, 3.0, 4.0, 5.0, 6.0, 7.0, 8.0, 9.0, 0.0, 0.0, 1.0, 0.5];
+    let a = Triangle::read(&numbers, 0);
+    io::write_all(1, b"read");
+    vector(a.v2);
+    vector(a.normal);
+    end();
+    let b = Triangle::read(&numbers, 1);
+    io::write_all(1, b"read");
+    vector(b.v0);
+    vector(b.normal);
+    end();
+    let c = Aabb::read(&numbers, 18446744073709551615);
+    io::write_all(1, b"read");
+    vector(c.min);
+    end();
+}
