@@ -112,7 +112,7 @@ fn boxes() {
     let beyond = Vec3 {
         x: 1.0,
         y: 2.0,
-        z: 1099511627776.0001,
+        z: 1099511627776.0003,
     };
     let tiny = Vec3 {
         x: 5e-324,
@@ -127,8 +127,14 @@ fn boxes() {
     show_box(Aabb::from_points(zero, high, tiny));
     show_box(Aabb::from_points(zero, beyond, tiny));
     show_box(e.union(Aabb::from_points(tiny, tiny, tiny)));
-    show_box(Aabb { min: high, max: zero });
-    show_box(Aabb { min: zero, max: turned });
+    show_box(Aabb {
+        min: high,
+        max: zero,
+    });
+    show_box(Aabb {
+        min: zero,
+        max: turned,
+    });
 }
 
 // ---- the slab test
@@ -150,30 +156,172 @@ fn slab(b: Aabb, ray: Ray) {
 fn slabs() {
     let nan = order::from_bits(0x7ff8_0000_0000_0000);
     let inf = order::infinity();
-    let low = Vec3 { x: 0.0, y: 0.0, z: 0.0 };
-    let high = Vec3 { x: 1.0, y: 1.0, z: 1.0 };
-    let unit = Aabb { min: low, max: high };
-    let above = Vec3 { x: 0.5, y: 0.5, z: 2.0 };
-    let down = Vec3 { x: 0.0, y: 0.0, z: -1.0 };
-    let ones = Vec3 { x: 1.0, y: 1.0, z: 1.0 };
+    let low = Vec3 {
+        x: 0.0,
+        y: 0.0,
+        z: 0.0,
+    };
+    let high = Vec3 {
+        x: 1.0,
+        y: 1.0,
+        z: 1.0,
+    };
+    let unit = Aabb {
+        min: low,
+        max: high,
+    };
+    let above = Vec3 {
+        x: 0.5,
+        y: 0.5,
+        z: 2.0,
+    };
+    let down = Vec3 {
+        x: 0.0,
+        y: 0.0,
+        z: -1.0,
+    };
+    let ones = Vec3 {
+        x: 1.0,
+        y: 1.0,
+        z: 1.0,
+    };
     // P8: |dir| below 1e-12 is parallel, 2^-39 is not
-    slab(unit, Ray { origin: above, direction: Vec3 { x: 0.0, y: 0.0, z: -9.094947017729282e-13 } });
-    slab(unit, Ray { origin: above, direction: Vec3 { x: 0.0, y: 0.0, z: -1.8189894035458565e-12 } });
+    slab(
+        unit,
+        Ray {
+            origin: above,
+            direction: Vec3 {
+                x: 0.0,
+                y: 0.0,
+                z: -9.094947017729282e-13,
+            },
+        },
+    );
+    slab(
+        unit,
+        Ray {
+            origin: above,
+            direction: Vec3 {
+                x: 0.0,
+                y: 0.0,
+                z: -1.8189894035458565e-12,
+            },
+        },
+    );
     // P1: the empty box
-    slab(Aabb::empty(), Ray { origin: above, direction: ones });
-    slab(Aabb::empty(), Ray { origin: above, direction: down });
+    slab(
+        Aabb::empty(),
+        Ray {
+            origin: above,
+            direction: ones,
+        },
+    );
+    slab(
+        Aabb::empty(),
+        Ray {
+            origin: above,
+            direction: down,
+        },
+    );
     // -0, a subnormal, an infinite and a NaN direction
-    slab(unit, Ray { origin: above, direction: Vec3 { x: -0.0, y: 5e-324, z: -1.0 } });
-    slab(unit, Ray { origin: above, direction: Vec3 { x: 0.0, y: 0.0, z: -inf } });
-    slab(unit, Ray { origin: above, direction: Vec3 { x: nan, y: 0.0, z: -1.0 } });
+    slab(
+        unit,
+        Ray {
+            origin: above,
+            direction: Vec3 {
+                x: -0.0,
+                y: 5e-324,
+                z: -1.0,
+            },
+        },
+    );
+    slab(
+        unit,
+        Ray {
+            origin: above,
+            direction: Vec3 {
+                x: 0.0,
+                y: 0.0,
+                z: -inf,
+            },
+        },
+    );
+    slab(
+        unit,
+        Ray {
+            origin: above,
+            direction: Vec3 {
+                x: nan,
+                y: 0.0,
+                z: -1.0,
+            },
+        },
+    );
     // on a plane, behind, beside
-    slab(unit, Ray { origin: high, direction: down });
-    slab(unit, Ray { origin: above, direction: ones });
-    slab(unit, Ray { origin: Vec3 { x: 2.0, y: 0.5, z: 2.0 }, direction: down });
+    slab(
+        unit,
+        Ray {
+            origin: high,
+            direction: down,
+        },
+    );
+    slab(
+        unit,
+        Ray {
+            origin: above,
+            direction: ones,
+        },
+    );
+    slab(
+        unit,
+        Ray {
+            origin: Vec3 {
+                x: 2.0,
+                y: 0.5,
+                z: 2.0,
+            },
+            direction: down,
+        },
+    );
     // a box with a NaN, one without end, and one whose sides are exchanged
-    slab(Aabb { min: Vec3 { x: nan, y: 0.0, z: 0.0 }, max: high }, Ray { origin: above, direction: down });
-    slab(Aabb { min: Vec3 { x: -inf, y: -inf, z: -inf }, max: high }, Ray { origin: low, direction: ones });
-    slab(Aabb { min: high, max: low }, Ray { origin: above, direction: down });
+    slab(
+        Aabb {
+            min: Vec3 {
+                x: nan,
+                y: 0.0,
+                z: 0.0,
+            },
+            max: high,
+        },
+        Ray {
+            origin: above,
+            direction: down,
+        },
+    );
+    slab(
+        Aabb {
+            min: Vec3 {
+                x: -inf,
+                y: -inf,
+                z: -inf,
+            },
+            max: high,
+        },
+        Ray {
+            origin: low,
+            direction: ones,
+        },
+    );
+    slab(
+        Aabb {
+            min: high,
+            max: low,
+        },
+        Ray {
+            origin: above,
+            direction: down,
+        },
+    );
 }
 
 // ---- triangles
@@ -197,39 +345,253 @@ fn meet(a: Triangle, ray: Ray, k: u32) {
 
 fn triangles() {
     let nan = order::from_bits(0x7ff8_0000_0000_0000);
-    let inf = order::infinity();
-    let v0 = Vec3 { x: 0.0, y: 0.0, z: 0.0 };
-    let v1 = Vec3 { x: 1.0, y: 0.0, z: 0.0 };
-    let v2 = Vec3 { x: 0.0, y: 1.0, z: 0.0 };
-    let normal = Vec3 { x: 0.0, y: 0.0, z: 1.0 };
+    let v0 = Vec3 {
+        x: 0.0,
+        y: 0.0,
+        z: 0.0,
+    };
+    let v1 = Vec3 {
+        x: 1.0,
+        y: 0.0,
+        z: 0.0,
+    };
+    let v2 = Vec3 {
+        x: 0.0,
+        y: 1.0,
+        z: 0.0,
+    };
+    let normal = Vec3 {
+        x: 0.0,
+        y: 0.0,
+        z: 1.0,
+    };
     let a = Triangle { v0, v1, v2, normal };
-    let down = Vec3 { x: 0.0, y: 0.0, z: -1.0 };
-    let up = Vec3 { x: 0.0, y: 0.0, z: 1.0 };
+    let down = Vec3 {
+        x: 0.0,
+        y: 0.0,
+        z: -1.0,
+    };
+    let up = Vec3 {
+        x: 0.0,
+        y: 0.0,
+        z: 1.0,
+    };
     // P2 to P7
-    meet(a, Ray { origin: Vec3 { x: 0.25, y: 0.25, z: 1.0 }, direction: down }, 2);
-    meet(a, Ray { origin: Vec3 { x: 0.25, y: 0.25, z: -1.0 }, direction: up }, 3);
-    meet(a, Ray { origin: Vec3 { x: 0.75, y: 0.75, z: 1.0 }, direction: down }, 4);
-    meet(a, Ray { origin: Vec3 { x: 2.0, y: 0.25, z: 1.0 }, direction: down }, 5);
-    meet(a, Ray { origin: Vec3 { x: 0.5, y: 0.5, z: 1.0 }, direction: down }, 6);
-    meet(a, Ray { origin: Vec3 { x: 0.25, y: 0.25, z: 9.5367431640625e-7 }, direction: down }, 7);
-    meet(a, Ray { origin: Vec3 { x: 0.25, y: 0.25, z: 1.9073486328125e-6 }, direction: down }, 7);
+    meet(
+        a,
+        Ray {
+            origin: Vec3 {
+                x: 0.25,
+                y: 0.25,
+                z: 1.0,
+            },
+            direction: down,
+        },
+        2,
+    );
+    meet(
+        a,
+        Ray {
+            origin: Vec3 {
+                x: 0.25,
+                y: 0.25,
+                z: -1.0,
+            },
+            direction: up,
+        },
+        3,
+    );
+    meet(
+        a,
+        Ray {
+            origin: Vec3 {
+                x: 0.75,
+                y: 0.75,
+                z: 1.0,
+            },
+            direction: down,
+        },
+        4,
+    );
+    meet(
+        a,
+        Ray {
+            origin: Vec3 {
+                x: 2.0,
+                y: 0.25,
+                z: 1.0,
+            },
+            direction: down,
+        },
+        5,
+    );
+    meet(
+        a,
+        Ray {
+            origin: Vec3 {
+                x: 0.5,
+                y: 0.5,
+                z: 1.0,
+            },
+            direction: down,
+        },
+        6,
+    );
+    meet(
+        a,
+        Ray {
+            origin: Vec3 {
+                x: 0.25,
+                y: 0.25,
+                z: 9.5367431640625e-7,
+            },
+            direction: down,
+        },
+        7,
+    );
+    meet(
+        a,
+        Ray {
+            origin: Vec3 {
+                x: 0.25,
+                y: 0.25,
+                z: 1.9073486328125e-6,
+            },
+            direction: down,
+        },
+        7,
+    );
     // a NaN u misses, a NaN v passes
-    meet(a, Ray { origin: Vec3 { x: nan, y: 0.25, z: 1.0 }, direction: down }, 8);
-    meet(a, Ray { origin: Vec3 { x: 0.25, y: 0.25, z: inf }, direction: down }, 9);
+    meet(
+        a,
+        Ray {
+            origin: Vec3 {
+                x: nan,
+                y: 0.25,
+                z: 1.0,
+            },
+            direction: down,
+        },
+        8,
+    );
+    let far = Vec3 {
+        x: 0.0,
+        y: 1e200,
+        z: 1e200,
+    };
+    meet(
+        Triangle {
+            v0,
+            v1: far,
+            v2: v1,
+            normal,
+        },
+        Ray {
+            origin: Vec3 {
+                x: 0.0,
+                y: 1e150,
+                z: 1e150,
+            },
+            direction: down,
+        },
+        9,
+    );
     // direction·normal = 0 is no front; a zero direction; a triangle without area; one that is not admitted
-    meet(Triangle { v0, v1, v2, normal: v0 }, Ray { origin: Vec3 { x: 0.25, y: 0.25, z: 1.0 }, direction: down }, 10);
-    meet(a, Ray { origin: Vec3 { x: 0.25, y: 0.25, z: 1.0 }, direction: v0 }, 11);
-    meet(Triangle { v0, v1, v2: v1, normal }, Ray { origin: Vec3 { x: 0.25, y: 0.25, z: 1.0 }, direction: down }, 12);
-    meet(Triangle { v0, v1, v2, normal: Vec3 { x: 0.0, y: 0.0, z: 2.0000000000000004 } }, Ray { origin: Vec3 { x: 0.25, y: 0.25, z: 1.0 }, direction: down }, 13);
+    meet(
+        Triangle {
+            v0,
+            v1,
+            v2,
+            normal: v0,
+        },
+        Ray {
+            origin: Vec3 {
+                x: 0.25,
+                y: 0.25,
+                z: 1.0,
+            },
+            direction: down,
+        },
+        10,
+    );
+    meet(
+        a,
+        Ray {
+            origin: Vec3 {
+                x: 0.25,
+                y: 0.25,
+                z: 1.0,
+            },
+            direction: v0,
+        },
+        11,
+    );
+    meet(
+        Triangle {
+            v0,
+            v1,
+            v2: v1,
+            normal,
+        },
+        Ray {
+            origin: Vec3 {
+                x: 0.25,
+                y: 0.25,
+                z: 1.0,
+            },
+            direction: down,
+        },
+        12,
+    );
+    meet(
+        Triangle {
+            v0,
+            v1,
+            v2,
+            normal: Vec3 {
+                x: 0.0,
+                y: 0.0,
+                z: 2.0000000000000004,
+            },
+        },
+        Ray {
+            origin: Vec3 {
+                x: 0.25,
+                y: 0.25,
+                z: 1.0,
+            },
+            direction: down,
+        },
+        13,
+    );
     io::write_all(1, b"centroid");
     vector(a.centroid());
-    vector(Triangle { v0: v1, v1, v2, normal }.centroid());
+    vector(Triangle {
+        v0: v1,
+        v1,
+        v2,
+        normal,
+    }.centroid());
     end();
 }
 
 // ---- numbers of a lent slice, and beyond its end
 fn reading() {
-    let numbers = [1.0, 2.0, 3.0, 4.0, 5.0, 6.0, 7.0, 8.0, 9.0, 0.0, 0.0, 1.0, 0.5];
+    let numbers = [
+        1.0,
+        2.0,
+        3.0,
+        4.0,
+        5.0,
+        6.0,
+        7.0,
+        8.0,
+        9.0,
+        0.0,
+        0.0,
+        1.0,
+        0.5,
+    ];
     let a = Triangle::read(&numbers, 0);
     io::write_all(1, b"read");
     vector(a.v2);
