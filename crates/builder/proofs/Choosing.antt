@@ -1,0 +1,113 @@
+-- Laws of the choice of a split. Assumes nothing.
+use mathlib.Core.Path.{_≡_, refl, sym, _∙_, ap, subst, subst⁻¹}
+use Prim.Native.Nat.{ℕ, zero, suc, _+_, _*_, _-_, _≤_, _<_}
+use native.Mathlib.Omega.{arith}
+use native.Mathlib.Numerals.{add-one}
+use mathlib.Core.Bool.{Bool, true, false, cond}
+use mathlib.Core.List.{List, [], _∷_}
+use lib.ListN.{length, getD, set, drop, replicate, length-set, length-drop, drop-of-length-le}
+use lib.Seq.{drop-cons, getD-set-same, getD-set-other}
+use lib.Ieee.{Float, le, lt, add, mul, sub, div, ofInt, ofBits, binary64}
+use lib.Dec.{leb, eqb}
+use borrow.Author.Tests.{eq-eqb, ne-eqb, le-leb, lt-leb}
+use native.Mathlib.Decide.{ℕ-discrete}
+use mathlib.Core.Logic.{_⊎_, inl, inr, ⊎-elim}
+use mathlib.Core.Bool.{_||_}
+use Rattle.order.specs.Number.{nought, one, one-and-half, sixteen, millionth, trillionth}
+use Rattle.aabb.specs.declared.bounds.Aabb.{Aabb}
+use Rattle.aabb.specs.Vector.{along}
+use Rattle.aabb.specs.Bounds.{area}
+use Rattle.builder.specs.declared.bins.Bin.{Bin}
+use Rattle.builder.specs.declared.split.Best.{Best}
+use Rattle.builder.specs.declared.split.SplitDecision.{SplitDecision}
+use Rattle.builder.specs.declared.split.SplitDecision.the-variants.{Split, MakeLeaf}
+use Rattle.builder.specs.Bins.{whole, noBin, blank, joinBins, filled, suffixOf}
+use Rattle.builder.specs.Choice.{weight, costOf, betterOf, sweepFrom, tryAxis, leafCost, chosen, bestSplit}
+
+-- ---- the sweep
+module _ (axis : ℕ) (lo scale parent : Float) where
+  sweep-cons : (best : Best) (l b : Bin) (bs : List Bin) (i : ℕ) → 0 < length bs → sweepFrom axis lo scale parent best l (b ∷ bs) i ≡ sweepFrom axis lo scale parent (betterOf best (joinBins l b) (suffixOf bs) (i + 1) axis lo scale parent) (joinBins l b) bs (i + 1)
+  unfolding sweepFrom
+  sweep-cons best l b [] i h = absurd (omega arith)
+  sweep-cons best l b (x ∷ bs) i h = refl
+
+  sweep-one : (best : Best) (l : Bin) (bs : List Bin) (i : ℕ) → length bs ≡ 1 → sweepFrom axis lo scale parent best l bs i ≡ best
+  unfolding sweepFrom
+  sweep-one best l [] i h = refl
+  sweep-one best l (b ∷ []) i h = refl
+  sweep-one best l (b ∷ x ∷ bs) i h = absurd (omega arith)
+
+  pub sweep-end : (best : Best) (l : Bin) (bs : List Bin) (i : ℕ) → length bs ≡ 16 → i ≤ 15 → 15 ≤ i → sweepFrom axis lo scale parent best l (drop i bs) i ≡ best
+  sweep-end best l bs i h p q = sweep-one best l (drop i bs) i (omega (arith, length-drop i bs))
+
+  pub sweep-next : (best best′ : Best) (l l′ r : Bin) (bs : List Bin) (i : ℕ) (n : Best) → length bs ≡ 16 → i < 15 → l′ ≡ joinBins l (getD bs i blank) → r ≡ suffixOf (drop (i + 1) bs)
+      → best′ ≡ betterOf best l′ r (i + 1) axis lo scale parent → sweepFrom axis lo scale parent best l (drop i bs) i ≡ n → sweepFrom axis lo scale parent best′ l′ (drop (i + 1) bs) (i + 1) ≡ n
+  sweep-next best best′ l l′ r bs i n h k p q e s =
+      let b1 : best′ ≡ betterOf best (joinBins l (getD bs i blank)) (suffixOf (drop (i + 1) bs)) (i + 1) axis lo scale parent = cc in
+      ap (λ (z : Best). sweepFrom axis lo scale parent z l′ (drop (i + 1) bs) (i + 1)) b1
+      ∙ ap (λ (z : Bin). sweepFrom axis lo scale parent (betterOf best (joinBins l (getD bs i blank)) (suffixOf (drop (i + 1) bs)) (i + 1) axis lo scale parent) z (drop (i + 1) bs) (i + 1)) p
+      ∙ sym (sweep-cons best l (getD bs i blank) (drop (i + 1) bs) i (omega (arith, length-drop (i + 1) bs)))
+      ∙ ap (λ (z : List Bin). sweepFrom axis lo scale parent best l z i) (sym (drop-cons bs i blank (omega arith) ∙ ap (λ (k : ℕ). getD bs i blank ∷ drop k bs) (sym (add-one i))))
+      ∙ s
+
+-- ---- the better of two
+module _ (best : Best) (l r : Bin) (i axis : ℕ) (lo scale parent : Float) where
+  pub better-1 : l .count ≡ 0 → best ≡ betterOf best l r i axis lo scale parent
+  unfolding betterOf
+  better-1 p = rw (eq-eqb (l .count) 0 p)
+
+  pub better-2 : (l .count ≡ 0 → ⊥) → r .count ≡ 0 → best ≡ betterOf best l r i axis lo scale parent
+  unfolding betterOf
+  better-2 p q = rw (ne-eqb (l .count) 0 p, eq-eqb (r .count) 0 q)
+
+  pub better-3 : (x : Float) → (l .count ≡ 0 → ⊥) → (r .count ≡ 0 → ⊥) → x ≡ costOf l r parent → lt x (best .cost) ≡ true
+      → _≡_ {A = Best} (record { cost = x; axis = axis; position = add binary64 lo (mul binary64 (whole i) (div binary64 one scale)) }) (betterOf best l r i axis lo scale parent)
+  unfolding betterOf
+  better-3 x p q e t = rw (ne-eqb (l .count) 0 p, ne-eqb (r .count) 0 q, ← e, t)
+
+  pub better-4 : (x : Float) → (l .count ≡ 0 → ⊥) → (r .count ≡ 0 → ⊥) → x ≡ costOf l r parent → lt x (best .cost) ≡ false → best ≡ betterOf best l r i axis lo scale parent
+  unfolding betterOf
+  better-4 x p q e t = rw (ne-eqb (l .count) 0 p, ne-eqb (r .count) 0 q, ← e, t)
+
+-- ---- an axis
+sixteen-is : whole 16 ≡ sixteen
+unfolding ofInt ofBits
+sixteen-is = refl
+
+module _ (m : List Float) (ids : List ℕ) (q : Aabb) (axis : ℕ) (parent : Float) (best : Best) (lo hi : Float) (el : lo ≡ along axis (q .min)) (eh : hi ≡ along axis (q .max)) where
+  pub try-skip : lt (sub binary64 hi lo) millionth ≡ true → best ≡ tryAxis m ids q axis parent best
+  unfolding tryAxis
+  try-skip t = rw (← el, ← eh, t)
+
+  pub try-go : (bins : List Bin) (r : Best) → lt (sub binary64 hi lo) millionth ≡ false → bins ≡ filled m axis lo (div binary64 (whole 16) (sub binary64 hi lo)) (replicate 16 noBin) ids
+      → r ≡ sweepFrom axis lo (div binary64 (whole 16) (sub binary64 hi lo)) parent best noBin bins 0 → r ≡ tryAxis m ids q axis parent best
+  unfolding tryAxis
+  try-go bins r t e f = f ∙ ap (λ (z : List Bin). sweepFrom axis lo (div binary64 (whole 16) (sub binary64 hi lo)) parent best noBin z 0) e ∙ rw (← el, ← eh, t, sixteen-is)
+
+-- ---- the choice
+module _ (m : List Float) (ids : List ℕ) (b q : Aabb) where
+  pub choose-few : length ids ≤ 4 → MakeLeaf ≡ bestSplit m ids b q
+  unfolding bestSplit
+  choose-few h = rw (le-leb (length ids) 4 h)
+
+  module _ (parent : Float) (h : 4 < length ids) (e : parent ≡ area b) where
+    pub choose-flat : le parent trillionth ≡ true → MakeLeaf ≡ bestSplit m ids b q
+    unfolding bestSplit
+    choose-flat t = rw (lt-leb (length ids) 4 h, ← e, t)
+
+    pub choose-best : (x y z : Best) → le parent trillionth ≡ false → x ≡ tryAxis m ids q 0 parent (record { cost = mul binary64 (whole (length ids)) one-and-half; axis = 0; position = nought })
+        → y ≡ tryAxis m ids q 1 parent x → z ≡ tryAxis m ids q 2 parent y → chosen (mul binary64 (whole (length ids)) one-and-half) z ≡ bestSplit m ids b q
+    unfolding bestSplit leafCost
+    choose-best x y z t p o r = rw (lt-leb (length ids) 4 h, ← e, t, ← p, ← o, ← r)
+
+pub chosen-split : (leaf : Float) (z : Best) → lt (z .cost) leaf ≡ true → Split (z .axis) (z .position) ≡ chosen leaf z
+unfolding chosen
+chosen-split leaf z t = rw t
+
+pub chosen-leaf : (leaf : Float) (z : Best) → lt (z .cost) leaf ≡ false → MakeLeaf ≡ chosen leaf z
+unfolding chosen
+chosen-leaf leaf z t = rw t
+
+-- a split is of more than four
+pub splits-four : (m : List Float) (ids : List ℕ) (b q : Aabb) (a : ℕ) (p : Float) → bestSplit m ids b q ≡ Split a p → (length ids ≤ 4 → ⊥)
+splits-four m ids b q a p e h = let r = choose-few m ids b q h in let w : _≡_ {A = ℕ} 0 1 = cc in omega arith

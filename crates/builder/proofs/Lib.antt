@@ -1,0 +1,11 @@
+pub mod Passes
+pub mod Filling
+pub mod Choosing
+pub mod Parting
+pub mod Linear
+pub mod Perm
+pub mod Heaps
+pub mod Growing
+pub mod Fills
+pub mod Whole
+pub mod Rest

@@ -1,0 +1,35 @@
+-- What a tree's layout does not reach stays. Assumes nothing.
+use mathlib.Core.Path.{_≡_, refl, sym, _∙_, ap}
+use Prim.Native.Nat.{ℕ, zero, suc, _+_, _*_, _≤_, _<_}
+use native.Mathlib.Omega.{arith}
+use mathlib.Core.List.{List}
+use lib.ListN.{drop, set}
+use lib.Seq.{drop-set-lt}
+use lib.Ieee.{Float}
+use Rattle.aabb.specs.declared.bounds.Aabb.{Aabb}
+use Rattle.builder.specs.Tree.{Tree, leaf, fork, below}
+use Rattle.builder.specs.Layout.{boxPut, linkPut, boxesOf, linksOf}
+
+box-rest : (k : ℕ) (bs : List Float) (node : ℕ) (b : Aabb) → node * 6 + 6 ≤ k → drop k (boxPut bs node b) ≡ drop k bs
+unfolding boxPut
+box-rest k bs node b h =
+    drop-set-lt k _ (node * 6 + 5) (b .max .z) (omega arith) ∙ drop-set-lt k _ (node * 6 + 4) (b .max .y) (omega arith) ∙ drop-set-lt k _ (node * 6 + 3) (b .max .x) (omega arith)
+    ∙ drop-set-lt k _ (node * 6 + 2) (b .min .z) (omega arith) ∙ drop-set-lt k _ (node * 6 + 1) (b .min .y) (omega arith) ∙ drop-set-lt k bs (node * 6) (b .min .x) (omega arith)
+
+link-rest : (k : ℕ) (ls : List ℕ) (node f c t : ℕ) → node * 3 + 3 ≤ k → drop k (linkPut ls node f c t) ≡ drop k ls
+unfolding linkPut
+link-rest k ls node f c t h = drop-set-lt k _ (node * 3 + 2) t (omega arith) ∙ drop-set-lt k _ (node * 3 + 1) c (omega arith) ∙ drop-set-lt k ls (node * 3) f (omega arith)
+
+pub boxes-rest : (k : ℕ) (t : Tree) (node next : ℕ) (bs : List Float) → node < next → (next + below t) * 6 ≤ k → drop k (boxesOf t node next bs) ≡ drop k bs
+unfolding boxesOf
+boxes-rest k (leaf b f c) node next bs h g = box-rest k bs node b (omega arith)
+boxes-rest k (fork b l r) node next bs h g =
+    boxes-rest k r (next + 1) (next + 2 + below l) (boxesOf l next (next + 2) (boxPut bs node b)) (omega arith) (omega arith)
+    ∙ boxes-rest k l next (next + 2) (boxPut bs node b) (omega arith) (omega arith) ∙ box-rest k bs node b (omega arith)
+
+pub links-rest : (k : ℕ) (t : Tree) (node next : ℕ) (ls : List ℕ) → node < next → (next + below t) * 3 ≤ k → drop k (linksOf t node next ls) ≡ drop k ls
+unfolding linksOf
+links-rest k (leaf b f c) node next ls h g = link-rest k ls node f c 1 (omega arith)
+links-rest k (fork b l r) node next ls h g =
+    links-rest k r (next + 1) (next + 2 + below l) (linksOf l next (next + 2) (linkPut ls node next 0 0)) (omega arith) (omega arith)
+    ∙ links-rest k l next (next + 2) (linkPut ls node next 0 0) (omega arith) (omega arith) ∙ link-rest k ls node next 0 0 (omega arith)

@@ -1,0 +1,126 @@
+-- Laws of the whole build. Assumes nothing.
+use mathlib.Core.Path.{_≡_, refl, sym, _∙_, ap, subst, subst⁻¹}
+use Prim.Native.Nat.{ℕ, zero, suc, _+_, _*_, _-_, _/_, _%_, _≤_, _<_}
+use native.Mathlib.Omega.{arith}
+use mathlib.Core.Bool.{Bool, true, false, cond}
+use mathlib.Core.Option.{Option, none, some}
+use mathlib.Core.List.{List, [], _∷_, _++_}
+use lib.ListN.{length, take, drop, replicate, length-append, length-drop}
+use lib.Seq.{take-at, drop-at, length-take-le}
+use lib.Dec.{ltb, eqb}
+use lib.Ieee.{Float}
+use borrow.Author.Tests.{eq-eqb, ne-eqb, le-ltb, lt-ltb}
+use borrow.Rule.Slice.PartMut.{midOf, postOf}
+use Rattle.order.specs.Number.{nought}
+use Rattle.builder.specs.declared.start.Found.{Found}
+use Rattle.builder.specs.declared.start.Found.the-variants.{At, Nothing}
+use Rattle.builder.specs.declared.division.Made.{Made}
+use Rattle.builder.specs.declared.division.Made.the-variants.{Next, Deep}
+use Rattle.builder.specs.declared.Built.{Built}
+use Rattle.builder.specs.declared.Built.the-variants.{Tree as Grew, Refused}
+use Rattle.builder.specs.Tree.{most-triangles, deepest, Tree, leaf, fork, Grown, grow, below, leaves}
+use Rattle.builder.specs.Layout.{boxesOf, linksOf, Laid, Divided}
+use Rattle.builder.specs.Build.{Outcome, outcome, upTo, room, firstRefused, cramped, finished, checked, built}
+
+-- ---- nodes and leaves
+pub twice-leaves : (t : Tree) → below t + 2 ≡ 2 * leaves t
+twice-leaves (leaf b f c) = refl
+twice-leaves (fork b l r) = omega (arith, twice-leaves l, twice-leaves r)
+
+leaves-are : (t : Tree) → (1 + below t) / 2 + 1 ≡ leaves t
+leaves-are t = half (below t) (leaves t) (twice-leaves t)
+  where
+    half : (a b : ℕ) → a + 2 ≡ 2 * b → (1 + a) / 2 + 1 ≡ b
+    half a b e = omega arith
+
+-- ---- the ends of `make`
+alike : (a a′ : Built) (xs xs′ : List ℕ) (bs bs′ : List Float) (ls ls′ : List ℕ) → a ≡ a′ → xs ≡ xs′ → bs ≡ bs′ → ls ≡ ls′ → outcome a xs bs ls ≡ outcome a′ xs′ bs′ ls′
+alike a a′ xs xs′ bs bs′ ls ls′ p q r s = cc
+
+next-same : (n k : ℕ) → Next n ≡ Next k → n ≡ k
+next-same n k e = cc
+
+never : (r : Made) (n : ℕ) → r ≡ Next n → r ≡ Deep → ⊥
+never r n p q = let z : _≡_ {A = ℕ} 0 1 = cc in omega arith
+
+grew : (n k : ℕ) (e : n ≡ k) → Grew n (n / 2 + 1) ≡ Grew k (k / 2 + 1)
+grew n k e = ap (λ (z : ℕ). Grew z (z / 2 + 1)) e
+
+pub made-done : (n k : ℕ) (o : Option Grown) (r : Made) (xs d zs : List ℕ) (bs bs₁ : List Float) (ls ls₁ : List ℕ)
+    → Divided o 0 1 bs ls r d bs₁ ls₁ → r ≡ Next k → zs ≡ d ++ drop n xs → outcome (Grew k (k / 2 + 1)) zs bs₁ ls₁ ≡ finished n o xs bs ls
+unfolding finished
+made-done n k none r xs d zs bs bs₁ ls ls₁ D e q = absurd (never r k e D)
+made-done n k (some g) r xs d zs bs bs₁ ls ls₁ D e q =
+    alike (Grew k (k / 2 + 1)) (Grew (1 + below (g .tree)) (leaves (g .tree))) zs (g .ids ++ drop n xs) bs₁ (boxesOf (g .tree) 0 1 bs) ls₁ (linksOf (g .tree) 0 1 ls)
+    (grew k (1 + below (g .tree)) (next-same k (1 + below (g .tree)) (sym e ∙ D .answer)) ∙ ap (λ (z : ℕ). Grew (1 + below (g .tree)) z) (leaves-are (g .tree)))
+    (q ∙ ap (λ (z : List ℕ). z ++ drop n xs) (D .index-is)) (D .boxes-are) (D .links-are)
+
+pub made-deep : (n : ℕ) (o : Option Grown) (r : Made) (xs d zs : List ℕ) (bs bs₁ bs₂ : List Float) (ls ls₁ ls₂ : List ℕ)
+    → Divided o 0 1 bs ls r d bs₁ ls₁ → r ≡ Deep → zs ≡ replicate (length xs) 0 → bs₂ ≡ replicate (length bs) nought → ls₂ ≡ replicate (length ls) 0
+    → outcome (Refused 6 0) zs bs₂ ls₂ ≡ finished n o xs bs ls
+unfolding finished
+made-deep n none r xs d zs bs bs₁ bs₂ ls ls₁ ls₂ D e p q s = alike (Refused 6 0) (Refused 6 0) zs (replicate (length xs) 0) bs₂ (replicate (length bs) nought) ls₂ (replicate (length ls) 0) refl p q s
+made-deep n (some g) r xs d zs bs bs₁ bs₂ ls ls₁ ls₂ D e p q s = absurd (never r (1 + below (g .tree)) (D .answer) e)
+
+-- ---- a list whose front was lent, came back as c, and is lent again
+module _ (xs c : List ℕ) (n : ℕ) (h : n ≤ length xs) (e : length c ≡ length (take (n - 0) xs)) where
+  less : (n : ℕ) → n - 0 ≡ n
+  less n = omega arith
+
+  pub c-length : length c ≡ n
+  c-length = e ∙ ap (λ (k : ℕ). length (take k xs)) (less n) ∙ length-take-le n xs h
+
+  pub front-length-is : length (take (n - 0) xs) ≡ n
+  front-length-is = sym e ∙ c-length
+
+  pub lent-again : take (n - 0) (c ++ postOf 0 (n - 0) xs) ≡ c
+  lent-again = take-at c (drop (n - 0) xs) (n - 0) (c-length ∙ sym (less n))
+
+  pub rest-again : drop (n - 0) (c ++ postOf 0 (n - 0) xs) ≡ drop n xs
+  rest-again = drop-at c (drop (n - 0) xs) (n - 0) (c-length ∙ sym (less n)) ∙ ap (λ (k : ℕ). drop k xs) (less n)
+
+  pub whole-length : length (c ++ postOf 0 (n - 0) xs) ≡ length xs
+  whole-length = let a = length-append c (drop (n - 0) xs) in let b = length-drop (n - 0) xs in let d = c-length in omega arith
+
+  -- d came back in its turn
+  pub twice-length : (d : List ℕ) → length d ≡ length (take (n - 0) (c ++ postOf 0 (n - 0) xs)) → length (d ++ drop (n - 0) (c ++ postOf 0 (n - 0) xs)) ≡ length xs
+  twice-length d k =
+      let a = length-append d (drop (n - 0) (c ++ drop (n - 0) xs)) in let b = ap length rest-again in let g = length-drop n xs in let f = ap length lent-again in let i = c-length in
+      omega arith
+
+-- ---- the tests of `build`, one after the other
+module _ (m : List Float) (xs : List ℕ) (bs : List Float) (ls : List ℕ) where
+  pub built-1 : (length m % 12 ≡ 0 → ⊥) → outcome (Refused 1 0) xs bs ls ≡ built m xs bs ls
+  unfolding built
+  built-1 h = rw (ne-eqb (length m % 12) 0 h)
+
+  pub built-2 : length m % 12 ≡ 0 → most-triangles < length m / 12 → outcome (Refused 2 (length m / 12)) xs bs ls ≡ built m xs bs ls
+  unfolding built
+  built-2 p h = rw (eq-eqb (length m % 12) 0 p, lt-ltb most-triangles (length m / 12) h)
+
+  module _ (p : length m % 12 ≡ 0) (q : length m / 12 ≤ most-triangles) where
+    pub built-3 : length xs < length m / 12 → outcome (Refused 3 0) xs bs ls ≡ built m xs bs ls
+    unfolding built
+    built-3 h = rw (eq-eqb (length m % 12) 0 p, le-ltb most-triangles (length m / 12) q, lt-ltb (length xs) (length m / 12) h)
+
+    module _ (r : length m / 12 ≤ length xs) (k : ℕ) (e : k ≡ room (length m / 12)) where
+      pub built-4 : length bs / 6 < k → outcome (Refused 4 k) xs bs ls ≡ built m xs bs ls
+      unfolding built cramped
+      built-4 h = rw (eq-eqb (length m % 12) 0 p, le-ltb most-triangles (length m / 12) q, le-ltb (length xs) (length m / 12) r, ← e, lt-ltb (length bs / 6) k h)
+
+      pub built-4′ : k ≤ length bs / 6 → length ls / 3 < k → outcome (Refused 4 k) xs bs ls ≡ built m xs bs ls
+      unfolding built cramped
+      built-4′ g h = rw (eq-eqb (length m % 12) 0 p, le-ltb most-triangles (length m / 12) q, le-ltb (length xs) (length m / 12) r, ← e, le-ltb (length bs / 6) k g, lt-ltb (length ls / 3) k h)
+
+      pub built-check : (f : Found) → k ≤ length bs / 6 → k ≤ length ls / 3 → f ≡ firstRefused m 0 (length m / 12) → checked m (length m / 12) f xs bs ls ≡ built m xs bs ls
+      unfolding built cramped
+      built-check f g h b = rw (eq-eqb (length m % 12) 0 p, le-ltb most-triangles (length m / 12) q, le-ltb (length xs) (length m / 12) r, ← e, le-ltb (length bs / 6) k g, le-ltb (length ls / 3) k h, b)
+
+      pub built-5 : (f : Found) (i : ℕ) → k ≤ length bs / 6 → k ≤ length ls / 3 → f ≡ firstRefused m 0 (length m / 12) → f ≡ At i → outcome (Refused 5 i) xs bs ls ≡ built m xs bs ls
+      unfolding checked
+      built-5 f i g h b w = ap (λ (z : Found). checked m (length m / 12) z xs bs ls) (sym w) ∙ built-check f g h b
+
+      pub built-6 : (f : Found) (o : Outcome) → k ≤ length bs / 6 → k ≤ length ls / 3 → f ≡ firstRefused m 0 (length m / 12) → f ≡ Nothing
+          → o ≡ finished (length m / 12) (grow m deepest 0 (upTo (length m / 12))) xs bs ls → o ≡ built m xs bs ls
+      unfolding checked
+      built-6 f o g h b w q = q ∙ ap (λ (z : Found). checked m (length m / 12) z xs bs ls) (sym w) ∙ built-check f g h b

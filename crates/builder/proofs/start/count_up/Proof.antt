@@ -1,0 +1,58 @@
+use mathlib.Core.Path.{_≡_, refl}
+use Prim.Native.Nat.{_-_, _≤_}
+use lib.ListN.{length, take, length-set}
+use Rattle.builder.specs.Build.{upTo}
+use Rattle.builder.proofs.Fills.{all-written, up-more}
+use borrow.Author.Needs.{needs}
+use Rattle.builder.proofs.start.count_up.Statement.{statement}
+use Rattle.builder.proofs.start.count_up.Tie as tie
+
+abbrev Inv-loop : tie.InvT-loop
+Inv-loop index₀ i₀ index i = (i ≤ length index₀) × (length index ≡ length index₀) × (take i index ≡ upTo i)
+
+abbrev μ-loop : tie.MeasureT-loop
+μ-loop index₀ i₀ index i = length index₀ - i
+
+loop-holds : tie.Need-loop-holds Inv-loop μ-loop
+unfolding upTo
+loop-holds c = (search needs, refl, refl)
+
+cast-index : tie.Need-cast-index Inv-loop μ-loop
+cast-index c = search needs
+
+mul-index : tie.Need-mul-index Inv-loop μ-loop
+mul-index c = search needs
+
+slice-write-index : tie.Need-slice-write-index Inv-loop μ-loop
+slice-write-index c = search needs
+
+add-i : tie.Need-add-i Inv-loop μ-loop
+add-i c = search needs
+
+loop-less : tie.Need-loop-less Inv-loop μ-loop
+loop-less c = search needs
+
+loop-again : tie.Need-loop-again Inv-loop μ-loop
+loop-again c = (search needs, simp length-set (c .before .loop .inv .1), up-more (c .before .loop .index) (c .before .loop .i) (c .loop-test .taken) (c .before .loop .inv .2))
+
+same-length : tie.Need-same-length Inv-loop μ-loop
+same-length c = search needs
+
+returns : tie.Need-returns Inv-loop μ-loop
+returns c = all-written upTo (c .before .loop .index) (c .before .loop .i) _ (c .before .loop .inv .0) (c .loop-test .left) (c .before .loop .inv .1) (c .before .loop .inv .2)
+
+pub count-up-spec : {M : Type 1} → statement M
+count-up-spec =
+    tie.close
+    (tie.spec
+    Inv-loop
+    μ-loop
+    loop-holds
+    cast-index
+    mul-index
+    slice-write-index
+    add-i
+    loop-less
+    loop-again
+    same-length
+    returns)

@@ -1,0 +1,54 @@
+-- Sixteen bins hold a count and a box each. Definitions only.
+use Prim.Native.Nat.{ℕ, zero, suc, _+_, _≤_}
+use mathlib.Core.Bool.{Bool, cond}
+use mathlib.Core.List.{List, [], _∷_}
+use lib.ListN.{getD, set}
+use lib.IntN.{pos}
+use lib.Ieee.{Float, nan, sub, mul, le, ofInt, binary64}
+use Rattle.aabb.specs.declared.bounds.Aabb.{Aabb}
+use Rattle.aabb.specs.Vector.{vec}
+use Rattle.aabb.specs.Bounds.{box, emptyBox, union}
+use Rattle.triangle.specs.Mesh.{boundsAt, centroidAt}
+use Rattle.builder.specs.declared.bins.Bin.{Bin}
+
+-- a whole number as a float
+abbrev pub whole : ℕ → Float
+whole n = ofInt binary64 (pos n)
+
+unfoldable pub noBin : Bin
+noBin = record { count = 0; bounds = emptyBox }
+
+-- a triangle more, whose box is given
+unfoldable pub withBox : Bin → Aabb → Bin
+withBox b x = record { count = b .count + 1; bounds = union (b .bounds) x }
+
+unfoldable pub joinBins : Bin → Bin → Bin
+joinBins a b = record { count = a .count + b .count; bounds = union (a .bounds) (b .bounds) }
+
+-- the greatest whole k in 0..n with k <= x
+unfoldable pub binOf : ℕ → Float → ℕ
+binOf zero x = 0
+binOf (suc k) x = cond (le (whole (suc k)) x) (suc k) (binOf k x)
+
+-- the bin of a centroid c is the greatest whole k in 0..15 with k <= (c-min)·scale
+unfoldable pub place : List Float → ℕ → Float → Float → ℕ → ℕ
+place mesh axis min scale i = binOf 15 (mul binary64 (sub binary64 (centroidAt mesh axis i) min) scale)
+
+-- what an array of bins reads as past its end, which no definition here looks at
+abbrev pub blank : Bin
+blank = record { count = 0; bounds = box (vec nan nan nan) (vec nan nan nan) }
+
+-- the bins, with the range's triangles put in, in list order
+unfoldable pub filled : List Float → ℕ → Float → Float → List Bin → List ℕ → List Bin
+filled mesh axis min scale bins [] = bins
+filled mesh axis min scale bins (i ∷ is) =
+    filled mesh axis min scale (set bins (place mesh axis min scale i) (withBox (getD bins (place mesh axis min scale i) blank) (boundsAt mesh i))) is
+
+-- the bins to the right of a boundary, joined from the right end
+unfoldable pub suffixOf : List Bin → Bin
+suffixOf [] = noBin
+suffixOf (b ∷ bs) = joinBins (suffixOf bs) b
+
+-- no bin counts more than n
+abbrev pub AtMost : ℕ → List Bin → Type 0
+AtMost n bs = (i : ℕ) → getD bs i blank .count ≤ n

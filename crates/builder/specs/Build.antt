@@ -1,0 +1,65 @@
+-- What a build answers and leaves in the lent lists, on every input. Definitions only.
+use Prim.Native.Nat.{ℕ, zero, suc, _+_, _*_, _/_, _%_}
+use mathlib.Core.Bool.{Bool, true, false, cond, not, _||_}
+use mathlib.Core.Option.{Option, none, some}
+use mathlib.Core.List.{List, [], _∷_, _++_}
+use lib.ListN.{length, drop, replicate}
+use lib.Dec.{ltb, eqb}
+use lib.Ieee.{Float}
+use Rattle.order.specs.Number.{nought}
+use Rattle.triangle.specs.Mesh.{triangleAt, admittedTriangle}
+use Rattle.builder.specs.declared.start.Found.{Found}
+use Rattle.builder.specs.declared.start.Found.the-variants.{At, Nothing}
+use Rattle.builder.specs.declared.Built.{Built}
+use Rattle.builder.specs.declared.Built.the-variants.{Tree as Grew, Refused}
+use Rattle.builder.specs.Tree.{most-triangles, deepest, Grown, grow, below, leaves}
+use Rattle.builder.specs.Layout.{boxesOf, linksOf}
+
+-- the answer, and what the lent index list, boxes and links hold at the end
+pub record Outcome : Type 0 where
+  pub answer : Built
+  pub index : List ℕ
+  pub boxes : List Float
+  pub links : List ℕ
+
+abbrev pub outcome : Built → List ℕ → List Float → List ℕ → Outcome
+outcome answer index boxes links = record { answer = answer; index = index; boxes = boxes; links = links }
+
+-- Indices start 0..n-1
+unfoldable pub upTo : ℕ → List ℕ
+upTo zero = []
+upTo (suc n) = upTo n ++ (n ∷ [])
+
+-- R = 2n-1, or 1 for n = 0
+unfoldable pub room : ℕ → ℕ
+room zero = 1
+room (suc n) = 2 * n + 1
+
+-- the lowest of k triangle numbers from i on whose triangle isn't admitted
+unfoldable pub firstRefused : List Float → ℕ → ℕ → Found
+firstRefused mesh i zero = Nothing
+firstRefused mesh i (suc k) = elim (admittedTriangle (triangleAt mesh i)) [ true ↦ firstRefused mesh (suc i) k | false ↦ At i ]
+
+-- 6 sets every number of the lent index and node buffers to zero. Success answers the node count 2L-1 and the leaf count L, and writes the
+-- first n indices and the first 2L-1 nodes; the rest stays
+unfoldable pub finished : ℕ → Option Grown → List ℕ → List Float → List ℕ → Outcome
+finished n none index boxes links = outcome (Refused 6 0) (replicate (length index) 0) (replicate (length boxes) nought) (replicate (length links) 0)
+finished n (some g) index boxes links = outcome (Grew (1 + below (g .tree)) (leaves (g .tree))) (g .ids ++ drop n index) (boxesOf (g .tree) 0 1 boxes) (linksOf (g .tree) 0 1 links)
+
+-- 5, with the lowest number; then the tree, or 6
+unfoldable pub checked : List Float → ℕ → Found → List ℕ → List Float → List ℕ → Outcome
+checked mesh n (At i) index boxes links = outcome (Refused 5 i) index boxes links
+checked mesh n Nothing index boxes links = finished n (grow mesh deepest 0 (upTo n)) index boxes links
+
+-- node room below R in boxes or links
+unfoldable pub cramped : ℕ → List Float → List ℕ → Bool
+cramped r boxes links = ltb (length boxes / 6) r || ltb (length links / 3) r
+
+-- Build order: 1, 2, 3, 4, 5 (lowest number), 6. Refusals 1 to 5 leave all buffers unchanged
+unfoldable pub built : List Float → List ℕ → List Float → List ℕ → Outcome
+built mesh index boxes links =
+    cond (not (eqb (length mesh % 12) 0)) (outcome (Refused 1 0) index boxes links)
+    (cond (ltb most-triangles (length mesh / 12)) (outcome (Refused 2 (length mesh / 12)) index boxes links)
+    (cond (ltb (length index) (length mesh / 12)) (outcome (Refused 3 0) index boxes links)
+    (cond (cramped (room (length mesh / 12)) boxes links) (outcome (Refused 4 (room (length mesh / 12))) index boxes links)
+    (checked mesh (length mesh / 12) (firstRefused mesh 0 (length mesh / 12)) index boxes links))))

@@ -1,0 +1,36 @@
+-- Where the partition leaves one side empty: the range in ascending order of centroid. Definitions only.
+use Prim.Native.Nat.{ℕ, _/_}
+use mathlib.Core.Bool.{Bool, true, false, cond, _||_}
+use mathlib.Core.List.{List, [], _∷_}
+use lib.ListN.{length}
+use lib.Dec.{ltb, eqb}
+use lib.Ieee.{Float}
+use Rattle.order.specs.Total.{lex, totalLess}
+use Rattle.triangle.specs.Mesh.{centroidAt}
+use Rattle.builder.specs.Partition.{Parted, parts, parted}
+
+-- by `total_cmp` of what `at` has
+unfoldable pub underAt : (ℕ → Float) → ℕ → ℕ → Bool
+underAt at a b = totalLess (at a) (at b)
+
+-- ascending order of centroid by `total_cmp`, equal ones by lower triangle number
+unfoldable pub ahead : (ℕ → Float) → ℕ → ℕ → Bool
+ahead at a b = lex (underAt at) ltb a b
+
+unfoldable pub insert : (ℕ → ℕ → Bool) → ℕ → List ℕ → List ℕ
+insert less x [] = x ∷ []
+insert less x (y ∷ ys) = elim (less y x) [ true ↦ y ∷ insert less x ys | false ↦ x ∷ y ∷ ys ]
+
+unfoldable pub sorted : (ℕ → ℕ → Bool) → List ℕ → List ℕ
+sorted less [] = []
+sorted less (x ∷ xs) = insert less x (sorted less xs)
+
+unfoldable pub ordered : List Float → ℕ → List ℕ → List ℕ
+ordered mesh axis range = sorted (ahead (centroidAt mesh axis)) range
+
+-- If one side is empty, the range is put in order, and the left side takes count/2
+unfoldable pub settled : List Float → ℕ → Parted → Parted
+settled mesh axis s = cond (eqb (s .at) 0 || eqb (s .at) (length (s .ids))) (parts (ordered mesh axis (s .ids)) (length (s .ids) / 2)) s
+
+unfoldable pub separated : List Float → ℕ → Float → List ℕ → Parted
+separated mesh axis position range = settled mesh axis (parted mesh axis position range)

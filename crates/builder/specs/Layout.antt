@@ -1,0 +1,40 @@
+-- A tree laid out in the lent lists: its root at `node`, what is below it from `next` on. Definitions only.
+use Prim.Native.Nat.{ℕ, _+_, _*_}
+use mathlib.Core.Path.{_≡_}
+use mathlib.Core.Option.{Option, none, some}
+use mathlib.Core.List.{List}
+use lib.ListN.{set}
+use lib.Ieee.{Float}
+use Rattle.aabb.specs.declared.bounds.Aabb.{Aabb}
+use Rattle.builder.specs.declared.division.Made.{Made}
+use Rattle.builder.specs.declared.division.Made.the-variants.{Next, Deep}
+use Rattle.builder.specs.Tree.{Tree, leaf, fork, Grown, below}
+
+-- six f64: min x, y, z, max x, y, z
+unfoldable pub boxPut : List Float → ℕ → Aabb → List Float
+boxPut boxes node b =
+    set (set (set (set (set (set boxes (node * 6) (b .min .x)) (node * 6 + 1) (b .min .y)) (node * 6 + 2) (b .min .z)) (node * 6 + 3) (b .max .x)) (node * 6 + 4) (b .max .y)) (node * 6 + 5) (b .max .z)
+
+-- three u32: `left_or_first`, `count`, kind: 1 leaf, 0 internal
+unfoldable pub linkPut : List ℕ → ℕ → ℕ → ℕ → ℕ → List ℕ
+linkPut links node left-or-first count kind = set (set (set links (node * 3) left-or-first) (node * 3 + 1) count) (node * 3 + 2) kind
+
+-- Children take the next two node numbers, the left one is divided wholly before the right
+unfoldable pub boxesOf : Tree → ℕ → ℕ → List Float → List Float
+boxesOf (leaf b f c) node next boxes = boxPut boxes node b
+boxesOf (fork b l r) node next boxes = boxesOf r (next + 1) (next + 2 + below l) (boxesOf l next (next + 2) (boxPut boxes node b))
+
+unfoldable pub linksOf : Tree → ℕ → ℕ → List ℕ → List ℕ
+linksOf (leaf b f c) node next links = linkPut links node f c 1
+linksOf (fork b l r) node next links = linksOf r (next + 1) (next + 2 + below l) (linksOf l next (next + 2) (linkPut links node next 0 0))
+
+-- what `subdivide` answers and leaves, of a grown tree or of one too deep
+pub record Laid (g : Grown) (node next : ℕ) (boxes : List Float) (links : List ℕ) (r : Made) (index′ : List ℕ) (boxes′ : List Float) (links′ : List ℕ) : Type 0 where
+  pub answer : r ≡ Next (next + below (g .tree))
+  pub index-is : index′ ≡ g .ids
+  pub boxes-are : boxes′ ≡ boxesOf (g .tree) node next boxes
+  pub links-are : links′ ≡ linksOf (g .tree) node next links
+
+abbrev pub Divided : Option Grown → ℕ → ℕ → List Float → List ℕ → Made → List ℕ → List Float → List ℕ → Type 0
+Divided none node next boxes links r index′ boxes′ links′ = r ≡ Deep
+Divided (some g) node next boxes links r index′ boxes′ links′ = Laid g node next boxes links r index′ boxes′ links′

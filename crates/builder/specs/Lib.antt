@@ -1,0 +1,9 @@
+pub mod Range
+pub mod Bins
+pub mod Choice
+pub mod Partition
+pub mod Fallback
+pub mod Tree
+pub mod Layout
+pub mod Build
+pub mod Heap

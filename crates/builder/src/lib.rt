@@ -1,0 +1,95 @@
+// The builder: a port of builder.rs. Triangles are put into a binary tree of boxes, node for node as the Rust does it.
+// Each `Vec` of the Rust is a buffer that the caller lends; `find_best_split` is an inner part (split.rt) and not public.
+mod range; // range.rt: what is asked of a range of triangle numbers
+mod bins; // bins.rt: the sixteen bins of an axis
+mod split; // split.rt: the choice of a split
+mod partition; // partition.rt: the partition of a range
+mod ordering; // ordering.rt: the fallback order
+mod nodes; // nodes.rt: a node, written
+mod division; // division.rt: the division of a range, which calls itself
+mod start; // start.rt: what is tested and written before and after the division
+
+use division::Made;
+use start::Found;
+ghost use mathlib.Core.Path.{_≡_};
+ghost use Prim.Native.Nat.{_+_, _*_, _≤_, _-_};
+ghost use lib.ListN.{length};
+ghost use Rattle.builder.specs.Tree.{most-triangles, deepest, grow};
+ghost use Rattle.builder.specs.Build.{upTo, outcome, finished, built};
+
+// What a build answers: the tree's node count and leaf count, or document 01's refusal number and its `at`.
+pub enum Built {
+    Tree { nodes: usize, leaves: usize },
+    Refused { number: u32, at: usize },
+}
+
+// The tree of the triangles, twelve numbers each: v0, v1, v2, normal. On success `index` has the triangle numbers, each leaf's in one range,
+// `boxes` six numbers a node (min x, y, z, max x, y, z) and `links` three (`left_or_first`, `count`, kind: 1 leaf, 0 internal); room beyond
+// the n indices and the 2L-1 nodes stays. Refused, in this order: 1 the triangle slice is not a multiple of 12 long; 2 more than 65,536
+// triangles (at: how many); 3 index room shorter than n; 4 node room below R in boxes or links (at: R; 2n-1, or 1 for none);
+// 5 a triangle isn't admitted (at: the lowest such number); 6 the tree has a node deeper than 63. Refusals 1 to 5 write nothing; 6 sets
+// every number of the lent index and node buffers to zero.
+pub fn build(triangles: &[f64], index: &mut [u32], boxes: &mut [f64], links: &mut [u32]) -> Built
+    ensures { λ r. ⌜ outcome r (now (index .exit)) (now (boxes .exit)) (now (links .exit)) ≡ built (now (triangles .entry)) (now (index .entry)) (now (boxes .entry)) (now (links .entry)) ⌝ }
+{
+    if triangles.len() % 12 != 0 {
+        return Built::Refused { number: 1, at: 0 };
+    }
+    let n = triangles.len() / 12;
+    if start::MOST_TRIANGLES < n {
+        return Built::Refused { number: 2, at: n };
+    }
+    if index.len() < n {
+        return Built::Refused { number: 3, at: 0 };
+    }
+    let room = start::room(n);
+    if boxes.len() / 6 < room {
+        return Built::Refused {
+            number: 4,
+            at: room,
+        };
+    }
+    if links.len() / 3 < room {
+        return Built::Refused {
+            number: 4,
+            at: room,
+        };
+    }
+    let bad = start::first_refused(triangles, n);
+    if let Found::At(i) = bad {
+        return Built::Refused { number: 5, at: i };
+    }
+    make(triangles, index, boxes, links, n)
+}
+
+// The tree of n admitted triangles, in room that suffices.
+fn make(
+    triangles: &[f64],
+    index: &mut [u32],
+    boxes: &mut [f64],
+    links: &mut [u32],
+    n: usize,
+) -> Built
+    requires { ⌜ (n ≤ most-triangles) × (n ≤ length (now index)) × ((1 + 2 * (n - 1)) * 6 ≤ length (now boxes)) × ((1 + 2 * (n - 1)) * 3 ≤ length (now links)) ⌝ }
+    ensures { λ r. ⌜ outcome r (now (index .exit)) (now (boxes .exit)) (now (links .exit)) ≡ finished n (grow (now (triangles .entry)) deepest 0 (upTo n)) (now (index .entry)) (now (boxes .entry)) (now (links .entry)) ⌝ }
+{
+    start::count_up(&mut index[0..n]);
+    let made = division::subdivide(
+        triangles,
+        &mut index[0..n],
+        boxes,
+        links,
+        0,
+        0,
+        1,
+        division::DEEPEST,
+    );
+    let Made::Next(nodes) = made else {
+        start::clear(index);
+        start::clear_floats(boxes);
+        start::clear(links);
+        return Built::Refused { number: 6, at: 0 };
+    };
+    let leaves = nodes / 2 + 1;
+    Built::Tree { nodes, leaves }
+}

@@ -1,0 +1,6 @@
+pub mod Listed
+pub mod Entries
+pub mod Judged
+pub mod Bounded
+pub mod Going
+pub mod Entrance

@@ -1,0 +1,35 @@
+-- The pending nodes as an array and a length: what a step puts there, and what it takes. Assumes nothing.
+use mathlib.Core.Path.{_≡_, refl, ap, _∙_}
+use mathlib.Core.List.{List, [], _∷_}
+use Prim.Native.Nat.{ℕ, zero, suc, _+_, _-_, _≤_, _<_}
+use native.Mathlib.Numerals.{add-one}
+use native.Mathlib.Omega.{arith}
+use lib.ListN.{length, getD, set, length-set}
+use lib.Seq.{getD-set-same, getD-set-other}
+use Rattle.scene.specs.State.{top}
+
+top-set : (nodes : List ℕ) (i v k : ℕ) → k ≤ i → top (set nodes i v) k ≡ top nodes k
+top-set nodes i v zero h = refl
+top-set nodes i v (suc k) h = rw (getD-set-other nodes i k v 0 (omega arith), top-set nodes i v k (omega arith))
+
+put : (nodes : List ℕ) (k v : ℕ) → k < length nodes → top (set nodes k v) (k + 1) ≡ v ∷ top nodes k
+put nodes k v h = rw (add-one k) (rw (getD-set-same nodes k v 0 h, top-set nodes k v k (omega arith)))
+
+-- right, then left
+pub put-both : (nodes : List ℕ) (k left right : ℕ) → k + 2 ≤ length nodes → top (set (set nodes k right) (k + 1) left) (k + 2) ≡ left ∷ right ∷ top nodes k
+put-both nodes k left right h =
+    let e : k + 2 ≡ (k + 1) + 1 = omega arith in
+    ap (λ (m : ℕ). top (set (set nodes k right) (k + 1) left) m) e
+    ∙ put (set nodes k right) (k + 1) left (simp length-set (omega arith))
+    ∙ ap (λ (l : List ℕ). left ∷ l) (put nodes k right (omega arith))
+
+pub length-top : (nodes : List ℕ) (k : ℕ) → length (top nodes k) ≡ k
+length-top nodes zero = refl
+length-top nodes (suc k) = ap suc (length-top nodes k)
+
+-- the last one is taken
+pub taken : (nodes : List ℕ) (k : ℕ) → 0 < k → top nodes k ≡ getD nodes (k - 1) 0 ∷ top nodes (k - 1)
+taken nodes k h = go k (k - 1) (omega arith)
+  where
+    go : (k m : ℕ) → k ≡ suc m → top nodes k ≡ getD nodes m 0 ∷ top nodes m
+    go k m e = rw e

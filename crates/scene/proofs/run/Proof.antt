@@ -1,0 +1,133 @@
+-- The loop's invariant: what is left of the walk gives the whole walk's answer. Assumes nothing.
+use mathlib.Core.Path.{_≡_, refl, sym, ap, _∙_}
+use Prim.Native.Nat.{ℕ, _-_, _^_, _<_}
+use lib.ListN.{getD}
+use Rattle.scene.specs.Answer.{told}
+use native.Mathlib.Omega.{arith}
+use borrow.Author.Needs.{needs}
+use Rattle.scene.specs.Lent.{lent}
+use Rattle.scene.proofs.Going.{Going, begun, ended, spent, all-below, ready, stopped, down, down-less, open-room, opens, open-less}
+use Rattle.scene.proofs.run.Statement.{statement}
+use Rattle.scene.proofs.run.Tie as tie
+
+abbrev Inv-loop : tie.InvT-loop
+Inv-loop triangles index boxes links ray nodes pending₀ a₀ pending a = Going (lent triangles index boxes links) ray nodes pending a
+
+abbrev μ-loop : tie.MeasureT-loop
+μ-loop triangles index boxes links ray nodes pending₀ a₀ pending a = nodes - a .boxes
+
+small : (c : tie.At-loop Inv-loop μ-loop) (k : ℕ) → getD (c .before .before .before .before .before .before .args .links .now) k 0 < 2 ^ 32
+small c k = omega (arith, c .before .before .shared-slice-known4 .given k)
+
+root-requires : tie.Need-root-requires Inv-loop μ-loop
+root-requires c κs = search needs
+
+loop-holds : tie.Need-loop-holds Inv-loop μ-loop
+loop-holds c = let S = c .before .before .before .before .before in begun _ _ _ (S .pre .0) (S .pre .1) (c .root .ensures .0) (c .root .ensures .1)
+
+sub-besides : tie.Need-sub-besides Inv-loop μ-loop
+sub-besides c = search needs
+
+mul-i : tie.Need-mul-i Inv-loop μ-loop
+mul-i c = let m = c .before .loop .inv .room in omega arith
+
+element-copy-out-i : tie.Need-element-copy-out-i Inv-loop μ-loop
+element-copy-out-i c = let m = c .before .loop .inv .room in omega arith
+
+cast-t25 : tie.Need-cast-t25 Inv-loop μ-loop
+cast-t25 c = let l = c .before .before .before .loop in omega (arith, all-below _ _ _ (l .pending) (l .a) (l .inv) (omega arith) .0, l .inv .few)
+
+returns : tie.Need-returns Inv-loop μ-loop
+unfolding told
+returns c = let l = c .before .before .before .loop in spent _ _ _ (l .pending) (l .a) (l .inv) (omega arith) (c .if1 .taken)
+
+visit-requires : tie.Need-visit-requires Inv-loop μ-loop
+visit-requires c κs = let l = c .before .before .before .loop in ready _ _ _ (l .pending) (l .a) (l .inv) (omega arith) (c .if1 .left)
+
+enum-known-number : tie.Need-enum-known-number Inv-loop μ-loop
+enum-known-number c = search needs
+
+returns-2 : tie.Need-returns-2 Inv-loop μ-loop
+unfolding told
+returns-2 c =
+    let v = c .before .before .before in
+    let L = v .before .before .before .before in
+    let l = L .loop in
+    stopped _ _ _ (l .pending) (l .a) (l .inv) (v .before .before .before .loop-test .taken) (v .before .if1 .left) (v .visit .result) (v .visit .ensures) _ _ (c .before .number .given .1)
+
+enum-known-next : tie.Need-enum-known-next Inv-loop μ-loop
+enum-known-next c = search needs
+
+dropped-requires : tie.Need-dropped-requires Inv-loop μ-loop
+dropped-requires c κs = search needs
+
+loop-less : tie.Need-loop-less Inv-loop μ-loop
+loop-less c =
+    let v = c .before .before .before .before in
+    let L = v .before .before .before .before in
+    let l = L .loop in
+    omega (arith, v .before .if1 .left, down-less _ _ _ (l .pending) (l .a) (l .inv) (v .before .before .before .loop-test .taken) (v .before .if1 .left) (v .visit .result) (v .visit .ensures) (small L) _ (c .before .before .next .given .1))
+
+loop-again : tie.Need-loop-again Inv-loop μ-loop
+loop-again c =
+    let v = c .before .before .before .before in
+    let L = v .before .before .before .before in
+    let l = L .loop in
+    down _ _ _ (l .pending) (l .a) (l .inv) (v .before .before .before .loop-test .taken) (v .before .if1 .left) (v .visit .result) (v .visit .ensures) (small L) (c .dropped .result) _ (c .before .before .next .given .1) (c .dropped .ensures .0) (c .dropped .ensures .1)
+
+enum-known-left : tie.Need-enum-known-left Inv-loop μ-loop
+enum-known-left c = search needs
+
+opened-requires : tie.Need-opened-requires Inv-loop μ-loop
+opened-requires c κs =
+    let v = c .before .before .before in
+    let L = v .before .before .before .before in
+    let l = L .loop in
+    open-room _ _ _ (l .pending) (l .a) (l .inv) (v .before .before .before .loop-test .taken) (v .before .if1 .left) (v .visit .result) (v .visit .ensures) (small L) _ _ _ (c .before .left .given .1)
+
+loop-less-2 : tie.Need-loop-less-2 Inv-loop μ-loop
+loop-less-2 c =
+    let v = c .before .before .before .before in
+    let L = v .before .before .before .before in
+    let l = L .loop in
+    omega (arith, v .before .if1 .left, open-less _ _ _ (l .pending) (l .a) (l .inv) (v .before .before .before .loop-test .taken) (v .before .if1 .left) (v .visit .result) (v .visit .ensures) (small L) _ _ _ (c .before .before .left .given .1))
+
+loop-again-2 : tie.Need-loop-again-2 Inv-loop μ-loop
+loop-again-2 c =
+    let v = c .before .before .before .before in
+    let L = v .before .before .before .before in
+    let l = L .loop in
+    opens _ _ _ (l .pending) (l .a) (l .inv) (v .before .before .before .loop-test .taken) (v .before .if1 .left) (v .visit .result) (v .visit .ensures) (small L) (c .opened .result) _ _ _ (c .before .before .left .given .1) (c .opened .ensures .0) (c .opened .ensures .1)
+
+over-requires : tie.Need-over-requires Inv-loop μ-loop
+over-requires c κs = search needs
+
+returns-3 : tie.Need-returns-3 Inv-loop μ-loop
+returns-3 c = let l = c .before .before .loop in c .over .ensures ∙ ended _ _ _ (l .pending) (l .a) (l .inv) (omega arith)
+
+pub run-spec : {M : Type 1} → statement M
+run-spec =
+    tie.close
+    (tie.spec
+    Inv-loop
+    μ-loop
+    root-requires
+    loop-holds
+    sub-besides
+    mul-i
+    element-copy-out-i
+    cast-t25
+    returns
+    visit-requires
+    enum-known-number
+    returns-2
+    enum-known-next
+    dropped-requires
+    loop-less
+    loop-again
+    enum-known-left
+    opened-requires
+    loop-less-2
+    loop-again-2
+    over-requires
+    returns-3)

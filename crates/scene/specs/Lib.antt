@@ -1,0 +1,4 @@
+pub mod Lent
+pub mod Answer
+pub mod Walk
+pub mod State

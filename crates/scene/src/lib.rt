@@ -1,0 +1,142 @@
+// The walk of one ray through one mesh: a port of `intersect_blas` of scene.rs, with the counts of the inner loop of cost.rs.
+// Left out, as document 01 says: the instances, their transforms and the top level. Added: every walk ends with a hit, a miss or a numbered
+// refusal, on any lists; the Rust panics on the 65th pending node and can run for ever on a looping tree.
+mod tally; // tally.rt: the counts and the hit so far
+mod pending; // pending.rt: the pending node numbers
+mod node; // node.rt: a node of the lent lists
+mod leaf; // leaf.rt: a leaf's triangles
+mod step; // step.rt: one step
+
+use aabb::Ray;
+use pending::Pending;
+use step::Turn;
+use tally::Nearest;
+use tally::Tally;
+use triangle::Hit;
+use triangle::Triangle;
+ghost use mathlib.Core.Path.{_≡_};
+ghost use mathlib.Core.List.{[], _∷_};
+ghost use Prim.Native.Nat.{_<_, _≤_};
+ghost use Rattle.scene.specs.Lent.{lent, nodeCount, most-nodes};
+ghost use Rattle.scene.specs.Answer.{told};
+ghost use Rattle.scene.specs.Walk.{over, start, run, misfit, walk};
+
+// The walk's answer: a hit with its numbers and counts, a miss with counts, or a refusal, with document 01's number and `at`.
+pub enum Answer {
+    Struck {
+        hit: Hit,
+        boxes: u64,
+        triangles: u64,
+    },
+    Missed {
+        boxes: u64,
+        triangles: u64,
+    },
+    Refused {
+        number: u32,
+        at: u64,
+    },
+}
+
+// The answer of a walk that has no node pending any more.
+fn over(triangles: &[f64], ray: Ray, a: Tally) -> Answer
+    ensures { λ r. ⌜ told r ≡ over (now (triangles .entry)) ray a ⌝ }
+{
+    let best = a.nearest;
+    match best {
+        Nearest::Unmet => Answer::Missed {
+            boxes: a.boxes,
+            triangles: a.triangles,
+        },
+        Nearest::Met { t, number } => {
+            let hit = Triangle::read(triangles, number as usize).hit(ray, t, number);
+            Answer::Struck {
+                hit,
+                boxes: a.boxes,
+                triangles: a.triangles,
+            }
+        }
+    }
+}
+
+// The steps, from the root on.
+fn run(triangles: &[f64], index: &[u32], boxes: &[f64], links: &[u32], ray: Ray) -> Answer
+    requires { ⌜ (0 < nodeCount (now links)) × (nodeCount (now links) ≤ most-nodes) ⌝ }
+    ensures { λ r. ⌜ told r ≡ run (lent (now (triangles .entry)) (now (index .entry)) (now (boxes .entry)) (now (links .entry))) ray (nodeCount (now (links .entry))) (0 ∷ []) start ⌝ }
+{
+    let nodes = links.len() / 3;
+    let mut pending = Pending::root();
+    let mut a = Tally {
+        boxes: 0,
+        triangles: 0,
+        nearest: Nearest::Unmet,
+    };
+    while 0 < pending.len {
+        let besides = pending.len - 1;
+        let i = pending.nodes[besides];
+        if nodes <= a.boxes as usize {
+            return Answer::Refused {
+                number: 12,
+                at: i as u64,
+            };
+        }
+        match step::visit(triangles, index, boxes, links, ray, i, besides, a) {
+            Turn::Refuse { number, at } => {
+                return Answer::Refused { number, at };
+            }
+            Turn::Down(next) => {
+                a = next;
+                pending = pending.dropped(besides);
+            }
+            Turn::Open { left, right, tally } => {
+                a = tally;
+                pending = pending.opened(besides, left, right);
+            }
+        }
+    }
+    over(triangles, ray, a)
+}
+
+// Refusal 8: links empty, not a multiple of 3, over 131,071 nodes, or boxes not twice as long as links.
+fn misfit(boxes: &[f64], links: &[u32]) -> bool
+    ensures { λ r. ⌜ r ≡ misfit (now (boxes .entry)) (now (links .entry)) ⌝ }
+{
+    let n = links.len();
+    if n == 0 {
+        return true;
+    }
+    if n % 3 != 0 {
+        return true;
+    }
+    if 131071 < n / 3 {
+        return true;
+    }
+    boxes.len() != 2 * n
+}
+
+// The nearest hit of the ray among the triangles of the leaves whose boxes it passes, or a miss, with the box tests and the triangle tests
+// made; or a refusal: 1 triangles not a multiple of 12 long; 2 more than 65,536 of them; 7 the ray isn't admitted; 8 links empty, not a
+// multiple of 3, over 131,071 nodes, or boxes not twice as long; then by steps 12 a box test beyond the number of nodes, 9 a bad node,
+// 10 an index entry of n or more, 5 a triangle that isn't admitted, 11 more than 64 pending. It writes nothing.
+pub fn walk(triangles: &[f64], index: &[u32], boxes: &[f64], links: &[u32], ray: Ray) -> Answer
+    ensures { λ r. ⌜ told r ≡ walk (lent (now (triangles .entry)) (now (index .entry)) (now (boxes .entry)) (now (links .entry))) ray ⌝ }
+{
+    let numbers = triangles.len();
+    if numbers % 12 != 0 {
+        return Answer::Refused { number: 1, at: 0 };
+    }
+    let n = numbers / 12;
+    if 65536 < n {
+        return Answer::Refused {
+            number: 2,
+            at: n as u64,
+        };
+    }
+    if !ray.admitted() {
+        return Answer::Refused { number: 7, at: 0 };
+    }
+    if misfit(boxes, links) {
+        return Answer::Refused { number: 8, at: 0 };
+    }
+    run(triangles, index, boxes, links, ray)
+}

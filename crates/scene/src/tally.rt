@@ -1,0 +1,69 @@
+// What a walk has counted and found so far. Of the hit only t and the triangle's number are carried: the rest is made once, at the end.
+use aabb::Ray;
+use triangle::Distance;
+use triangle::Triangle;
+ghost use mathlib.Core.Path.{_≡_};
+ghost use Prim.Native.Nat.{_<_, _^_};
+ghost use Rattle.scene.specs.Walk.{limit, nearer, after, boxed};
+
+// The hit so far.
+pub enum Nearest {
+    Unmet,
+    Met { t: f64, number: u32 },
+}
+
+// The two counts, of box tests and of triangle tests, and the hit so far.
+pub struct Tally {
+    pub boxes: u64,
+    pub triangles: u64,
+    pub nearest: Nearest,
+}
+
+// The t that a hit must be less than.
+pub fn limit(best: Nearest) -> f64
+    ensures { λ r. ⌜ r ≡ limit best ⌝ }
+{
+    match best {
+        Nearest::Unmet => order::infinity(),
+        Nearest::Met { t, number: _ } => t,
+    }
+}
+
+// The nearer of the hit so far and what the test of triangle `number` found: strictly smaller t replaces the hit.
+pub fn nearer(best: Nearest, number: u32, found: Distance) -> Nearest
+    ensures { λ r. ⌜ r ≡ nearer best number found ⌝ }
+{
+    match found {
+        Distance::None => best,
+        Distance::To(t) => {
+            if t < limit(best) {
+                Nearest::Met { t, number }
+            } else {
+                best
+            }
+        }
+    }
+}
+
+// The hit so far, after the test of one triangle more.
+pub fn after(triangles: &[f64], ray: Ray, number: u32, best: Nearest) -> Nearest
+    ensures { λ r. ⌜ r ≡ after (now (triangles .entry)) ray number best ⌝ }
+{
+    let found = Triangle::read(triangles, number as usize).distance(ray);
+    nearer(best, number, found)
+}
+
+impl Tally {
+    // One box test more.
+    pub fn boxed(self) -> Tally
+        requires { ⌜ self .boxes < 2 ^ 60 ⌝ }
+        ensures { λ r. ⌜ r ≡ boxed self ⌝ }
+    {
+        let nearest = self.nearest;
+        Tally {
+            boxes: self.boxes + 1,
+            triangles: self.triangles,
+            nearest,
+        }
+    }
+}
