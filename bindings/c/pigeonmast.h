@@ -1,0 +1,90 @@
+/* Pigeonmast: a box tree over triangles and its walk, proved in Rattle.
+ *
+ * Link with libexport.a (x86-64). A slice passes as a pointer and then its
+ * length in numbers; a fixed record passes as a pointer alone. What the caller
+ * owes at each call:
+ *
+ * - every pointer is not null and aligned for its type, also where the length
+ *   is 0, and points to that many numbers;
+ * - what a call may write overlaps nothing else that it is given, and nobody
+ *   else reads or writes it until the call returns; what it only reads stays as
+ *   it is until then;
+ * - rounding is to nearest even, and neither flush-to-zero nor
+ *   denormals-are-zero is set (the state in which a C program starts).
+ *
+ * Nothing else is asked: every other input gets an answer or a refusal. No call
+ * keeps a pointer, allocates memory or has state of its own.
+ *
+ * Triangles are twelve numbers each: v0, v1, v2, normal. A node is six numbers
+ * in `boxes` (min x, y, z, max x, y, z) and three in `links` (left child or
+ * first entry, count, kind: 1 leaf, 0 internal). A ray is its origin and its
+ * direction. The refusal numbers are those of document 01:
+ *
+ *    1  triangle slice not a multiple of 12 long
+ *    2  more than 65,536 triangles                          at: how many
+ *    3  index room shorter than the number of triangles
+ *    4  node room too small in boxes or links               at: nodes needed
+ *    5  a triangle is not admitted                          at: its number
+ *    6  the tree has a node deeper than 63
+ *    7  ray not admitted
+ *    8  links empty, not a multiple of 3, over 131,071 nodes, or boxes not
+ *       twice as long as links
+ *    9  bad node met                                        at: node
+ *   10  an index entry met is not below the number of triangles
+ *                                                           at: its place
+ *   11  more than 64 pending                                at: node
+ *   12  a box test beyond the number of nodes               at: node
+ */
+#ifndef PIGEONMAST_H
+#define PIGEONMAST_H
+
+#include <stddef.h>
+#include <stdint.h>
+
+#ifdef __cplusplus
+extern "C" {
+#endif
+
+#define PIGEONMAST_HIT 100
+
+/* Builds the tree of n triangles: the first n numbers of index and the first
+ * 2L-1 nodes of boxes and links. Room for n index entries and 2n-1 nodes (1 for
+ * none) is asked.
+ * Answers 0 with told = node count 2L-1, leaf count L; or refusal 1 to 6 with
+ * told = at, 0. Refusals 1 to 5 leave the buffers unchanged; 6 sets every
+ * number of index, boxes and links to zero. Spare room stays otherwise. */
+uint32_t pigeonmast_build(const double *triangles, size_t triangles_len,
+                          uint32_t *index, size_t index_len,
+                          double *boxes, size_t boxes_len,
+                          uint32_t *links, size_t links_len,
+                          uint64_t told[2]);
+
+/* Walks the tree with one ray (6 numbers). Hand over the 2L-1 nodes and n index
+ * entries without spare room.
+ * Answers PIGEONMAST_HIT with numbers = t, point, normal (7 numbers) and told =
+ * triangle, front (1 or 0), box tests, triangle tests; 0 for a miss with told =
+ * 0, 0, box tests, triangle tests; else the refusal with told = at, 0, 0, 0.
+ * numbers stay unchanged unless it is a hit. */
+uint32_t pigeonmast_walk(const double *triangles, size_t triangles_len,
+                         const uint32_t *index, size_t index_len,
+                         const double *boxes, size_t boxes_len,
+                         const uint32_t *links, size_t links_len,
+                         const double *ray, double *numbers,
+                         uint64_t told[4]);
+
+/* Where a ray (6 numbers) passes a box (6 numbers): 1 with times = enter, exit;
+ * or 0 with times unchanged. Answers on every double. */
+uint32_t pigeonmast_slab(const double *bounds, const double *ray,
+                         double times[2]);
+
+/* Where a ray (6 numbers) meets a triangle (12 numbers): 2 for its front or 1
+ * for its back with numbers = t, point, normal (7 numbers); or 0 with numbers
+ * unchanged. Answers on every double. */
+uint32_t pigeonmast_triangle(const double *triangle, const double *ray,
+                             double *numbers);
+
+#ifdef __cplusplus
+}
+#endif
+
+#endif

@@ -1,0 +1,164 @@
+use crate::{raw, Aabb, HitRecord, Ray, Refusal, Triangle};
+
+/// A tree with the triangles it was built of.
+#[derive(Clone, Debug, PartialEq)]
+pub struct Bvh {
+    triangles: Vec<f64>,
+    index: Vec<u32>,
+    boxes: Vec<f64>,
+    links: Vec<u32>,
+}
+
+/// A node of a tree.
+#[derive(Clone, Copy, Debug, PartialEq)]
+pub struct BvhNode {
+    /// Its box.
+    pub aabb: Aabb,
+    /// Of a leaf its first place in the index list, else its left child; the
+    /// right child is the next node.
+    pub left_or_first: u32,
+    /// Of a leaf how many triangles it has, else 0.
+    pub count: u32,
+    /// Whether it is a leaf.
+    pub is_leaf: bool,
+}
+
+/// What a walk found, and how many tests it took.
+#[derive(Clone, Copy, Debug, PartialEq)]
+pub struct Walk {
+    /// The hit, or none for a miss.
+    pub hit: Option<HitRecord>,
+    /// Boxes tested.
+    pub box_tests: u64,
+    /// Triangles tested.
+    pub triangle_tests: u64,
+}
+
+/// Builds the tree of these triangles. Refused with 2, 5 or 6.
+pub fn build_bvh(triangles: &[Triangle]) -> Result<Bvh, Refusal> {
+    Bvh::from_numbers(triangles.iter().flat_map(Triangle::numbers).collect())
+}
+
+/// The most triangles that a build takes.
+const MOST_TRIANGLES: usize = 65_536;
+
+impl Bvh {
+    /// As [`build_bvh`], of twelve numbers a triangle. Refused with 1, 2, 5 or 6.
+    ///
+    /// ```
+    /// use pigeonmast::Bvh;
+    /// assert_eq!(Bvh::from_numbers(vec![]).map(|bvh| bvh.node_count()), Ok(1));
+    /// let refusal = Bvh::from_numbers(vec![0.0; 13]).unwrap_err();
+    /// assert_eq!(refusal.number(), 1);
+    /// assert_eq!(refusal.to_string(), "refused 1 at 0: triangle slice not a multiple of 12 long");
+    /// ```
+    pub fn from_numbers(triangles: Vec<f64>) -> Result<Self, Refusal> {
+        let n = triangles.len() / 12;
+        // A mesh that is too long is refused before its room is looked at.
+        let room = if n > MOST_TRIANGLES {
+            0
+        } else {
+            (2 * n).max(2) - 1
+        };
+        let mut bvh = Self {
+            index: vec![0; n.min(MOST_TRIANGLES)],
+            boxes: vec![0.0; 6 * room],
+            links: vec![0; 3 * room],
+            triangles,
+        };
+        let mut told = [0; 2];
+        let number = raw::build(
+            &bvh.triangles,
+            &mut bvh.index,
+            &mut bvh.boxes,
+            &mut bvh.links,
+            &mut told,
+        );
+        if number != 0 {
+            return Err(Refusal::new(number, told[0]));
+        }
+        // The walk wants the nodes without spare room.
+        let nodes = usize::try_from(told[0]).map_or(room, |nodes| nodes.min(room));
+        bvh.boxes.truncate(6 * nodes);
+        bvh.links.truncate(3 * nodes);
+        Ok(bvh)
+    }
+
+    /// A tree from elsewhere, as lent lists. Nothing is looked at here: a walk
+    /// refuses what it meets.
+    #[must_use]
+    pub fn from_lists(
+        triangles: Vec<f64>,
+        index: Vec<u32>,
+        boxes: Vec<f64>,
+        links: Vec<u32>,
+    ) -> Self {
+        Self {
+            triangles,
+            index,
+            boxes,
+            links,
+        }
+    }
+
+    /// Walks the tree with a ray. A tree of [`build_bvh`] refuses only a ray
+    /// that isn't admitted (7); one of [`Bvh::from_lists`] with any of 1, 2, 5
+    /// and 7 to 12.
+    pub fn intersect(&self, ray: &Ray) -> Result<Walk, Refusal> {
+        let (mut numbers, mut told) = ([0.0; 7], [0; 4]);
+        let number = raw::walk(
+            &self.triangles,
+            &self.index,
+            &self.boxes,
+            &self.links,
+            &ray.numbers(),
+            &mut numbers,
+            &mut told,
+        );
+        let hit = match number {
+            0 => None,
+            raw::HIT => Some(HitRecord::new(numbers, told[1] == 1, told[0] as usize)),
+            _ => return Err(Refusal::new(number, told[0])),
+        };
+        Ok(Walk {
+            hit,
+            box_tests: told[2],
+            triangle_tests: told[3],
+        })
+    }
+
+    /// How many nodes it has: 2L-1 of L leaves.
+    #[must_use]
+    pub fn node_count(&self) -> usize {
+        self.links.len() / 3
+    }
+
+    /// How many leaves it has.
+    #[must_use]
+    pub fn leaf_count(&self) -> usize {
+        self.nodes().filter(|node| node.is_leaf).count()
+    }
+
+    /// Its nodes; the root is the first.
+    pub fn nodes(&self) -> impl Iterator<Item = BvhNode> + '_ {
+        let bounds = self.boxes.chunks_exact(6);
+        self.links
+            .chunks_exact(3)
+            .zip(bounds)
+            .map(|(l, b)| BvhNode {
+                aabb: Aabb {
+                    min: [b[0], b[1], b[2]].into(),
+                    max: [b[3], b[4], b[5]].into(),
+                },
+                left_or_first: l[0],
+                count: l[1],
+                is_leaf: l[2] == 1,
+            })
+    }
+
+    /// The index list: leaves hold ranges of it, its entries are triangles.
+    #[must_use]
+    pub fn indices(&self) -> &[u32] {
+        &self.index
+    }
+}

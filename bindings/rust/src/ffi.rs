@@ -1,0 +1,34 @@
+//! The exported functions, declared by hand: nothing checks these lines against
+//! the Rattle source, so the tests call each of them.
+
+extern "C" {
+    pub fn pigeonmast_build(
+        triangles: *const f64,
+        triangles_len: usize,
+        index: *mut u32,
+        index_len: usize,
+        boxes: *mut f64,
+        boxes_len: usize,
+        links: *mut u32,
+        links_len: usize,
+        told: *mut u64,
+    ) -> u32;
+
+    pub fn pigeonmast_walk(
+        triangles: *const f64,
+        triangles_len: usize,
+        index: *const u32,
+        index_len: usize,
+        boxes: *const f64,
+        boxes_len: usize,
+        links: *const u32,
+        links_len: usize,
+        ray: *const f64,
+        numbers: *mut f64,
+        told: *mut u64,
+    ) -> u32;
+
+    pub fn pigeonmast_slab(bounds: *const f64, ray: *const f64, times: *mut f64) -> u32;
+
+    pub fn pigeonmast_triangle(triangle: *const f64, ray: *const f64, numbers: *mut f64) -> u32;
+}

@@ -1,0 +1,53 @@
+//! A box tree over triangles and its walk, proved in Rattle, called from Rust.
+//!
+//! It reads like `optics-bvh`, of which it is a port: [`build_bvh`] makes a tree
+//! of triangles, [`Bvh::intersect`] walks it with a ray, [`Aabb::intersect_ray`]
+//! and [`Triangle::intersect`] are its two tests. What differs: numbers that are
+//! not admitted, longer meshes and trees too deep are a [`Refusal`] with its
+//! number and place instead of a panic, and a walk tells how many boxes and
+//! triangles it tested.
+//!
+//! ```
+//! use pigeonmast::{build_bvh, Ray, Triangle, Vec3};
+//!
+//! // Five triangles in a row along x.
+//! let triangles: Vec<Triangle> = [0.0, 16.0, 32.0, 48.0, 64.0]
+//!     .iter()
+//!     .map(|&s| Triangle {
+//!         v0: Vec3::new(s, 0.0, 0.0),
+//!         v1: Vec3::new(s + 3.0, 0.0, 0.0),
+//!         v2: Vec3::new(s, 3.0, 0.0),
+//!         normal: Vec3::new(0.0, 0.0, 1.0),
+//!     })
+//!     .collect();
+//! let bvh = build_bvh(&triangles)?;
+//! assert_eq!((bvh.node_count(), bvh.leaf_count()), (3, 2));
+//!
+//! let down = Vec3::new(0.0, 0.0, -1.0);
+//! let walk = bvh.intersect(&Ray::new(Vec3::new(17.0, 1.0, 1.0), down))?;
+//! let hit = walk.hit.expect("the second triangle lies below");
+//! assert_eq!((hit.triangle, hit.t, hit.is_front_face), (1, 1.0, true));
+//! assert_eq!((walk.box_tests, walk.triangle_tests), (3, 2));
+//!
+//! let lost = bvh.intersect(&Ray::new(Vec3::new(f64::NAN, 1.0, 1.0), down));
+//! assert_eq!(lost.unwrap_err().number(), 7);
+//! # Ok::<(), pigeonmast::Refusal>(())
+//! ```
+//!
+//! [`raw`] has the four calls of the library as they stand, over lent slices.
+
+#![deny(missing_docs)]
+
+mod aabb;
+mod bvh;
+mod ffi;
+pub mod raw;
+mod refusal;
+mod triangle;
+mod vector;
+
+pub use aabb::{ray_aabb_slab_test, Aabb};
+pub use bvh::{build_bvh, Bvh, BvhNode, Walk};
+pub use refusal::Refusal;
+pub use triangle::{HitRecord, Triangle};
+pub use vector::{Ray, Vec3};

@@ -1,0 +1,103 @@
+//! The four calls of the library as they stand, over lent slices.
+//!
+//! No call has a condition of its own: every input gets an answer or a refusal.
+//! What the boundary asks beyond that, a Rust slice or array already is: not
+//! null and aligned also where it is empty, as long as it says, and what is
+//! written (`&mut`) apart from all else. So these are safe, and test nothing.
+
+use crate::ffi;
+
+/// The answer of [`walk`] for a hit.
+pub const HIT: u32 = 100;
+
+/// Builds the tree of `triangles`, twelve numbers each, into the lent buffers.
+///
+/// Answers 0 with `told` = node count, leaf count; or the refusal's number with
+/// `told` = at, 0. Refusals 1 to 5 leave the buffers unchanged, 6 sets every
+/// number of them to zero.
+///
+/// ```
+/// // No triangles: one leaf with the empty box.
+/// let (mut boxes, mut links, mut told) = ([0.0; 6], [7; 3], [0; 2]);
+/// let answer = pigeonmast::raw::build(&[], &mut [], &mut boxes, &mut links, &mut told);
+/// assert_eq!((answer, told, links), (0, [1, 1], [0, 0, 1]));
+/// assert_eq!(boxes[0], f64::INFINITY);
+/// ```
+pub fn build(
+    triangles: &[f64],
+    index: &mut [u32],
+    boxes: &mut [f64],
+    links: &mut [u32],
+    told: &mut [u64; 2],
+) -> u32 {
+    // SAFETY: each pointer and length are one slice's; see the module's head.
+    unsafe {
+        ffi::pigeonmast_build(
+            triangles.as_ptr(),
+            triangles.len(),
+            index.as_mut_ptr(),
+            index.len(),
+            boxes.as_mut_ptr(),
+            boxes.len(),
+            links.as_mut_ptr(),
+            links.len(),
+            told.as_mut_ptr(),
+        )
+    }
+}
+
+/// Walks a tree with one ray (origin, direction).
+///
+/// Answers [`HIT`] with `numbers` = t, point, normal and `told` = triangle,
+/// front (1 or 0), box tests, triangle tests; 0 for a miss with `told` = 0, 0,
+/// box tests, triangle tests; else the refusal's number with `told` = at, 0, 0,
+/// 0. `numbers` stay unchanged unless it is a hit.
+///
+/// ```
+/// let (mut numbers, mut told) = ([0.0; 7], [0; 4]);
+/// let ray = [0.0, 0.0, 0.0, 0.0, 0.0, 1.0];
+/// // No nodes at all: refusal 8.
+/// let answer = pigeonmast::raw::walk(&[], &[], &[], &[], &ray, &mut numbers, &mut told);
+/// assert_eq!((answer, told), (8, [0; 4]));
+/// ```
+pub fn walk(
+    triangles: &[f64],
+    index: &[u32],
+    boxes: &[f64],
+    links: &[u32],
+    ray: &[f64; 6],
+    numbers: &mut [f64; 7],
+    told: &mut [u64; 4],
+) -> u32 {
+    // SAFETY: as in `build`.
+    unsafe {
+        ffi::pigeonmast_walk(
+            triangles.as_ptr(),
+            triangles.len(),
+            index.as_ptr(),
+            index.len(),
+            boxes.as_ptr(),
+            boxes.len(),
+            links.as_ptr(),
+            links.len(),
+            ray.as_ptr(),
+            numbers.as_mut_ptr(),
+            told.as_mut_ptr(),
+        )
+    }
+}
+
+/// Where a ray passes a box: 1 with `times` = enter, exit; or 0 with `times`
+/// unchanged. Answers on every number.
+pub fn slab(bounds: &[f64; 6], ray: &[f64; 6], times: &mut [f64; 2]) -> u32 {
+    // SAFETY: three arrays of the lengths that the call is declared with.
+    unsafe { ffi::pigeonmast_slab(bounds.as_ptr(), ray.as_ptr(), times.as_mut_ptr()) }
+}
+
+/// Where a ray meets a triangle: 2 for its front or 1 for its back with
+/// `numbers` = t, point, normal; or 0 with `numbers` unchanged. Answers on every
+/// number.
+pub fn triangle(triangle: &[f64; 12], ray: &[f64; 6], numbers: &mut [f64; 7]) -> u32 {
+    // SAFETY: three arrays of the lengths that the call is declared with.
+    unsafe { ffi::pigeonmast_triangle(triangle.as_ptr(), ray.as_ptr(), numbers.as_mut_ptr()) }
+}

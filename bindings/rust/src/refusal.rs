@@ -1,0 +1,64 @@
+//! The refusals of document 01.
+
+use std::error::Error;
+use std::fmt;
+
+/// Why a call was refused: document 01's number, and its place.
+#[derive(Clone, Copy, Debug, PartialEq, Eq, Hash)]
+pub struct Refusal {
+    number: u32,
+    place: u64,
+}
+
+impl Refusal {
+    pub(crate) fn new(number: u32, place: u64) -> Self {
+        Self { number, place }
+    }
+
+    /// 1 to 12, as in document 01's table.
+    #[must_use]
+    pub fn number(&self) -> u32 {
+        self.number
+    }
+
+    /// The table's `at`: a count, a triangle, a place in the index list or a
+    /// node, as the number has it; 0 where it names none.
+    #[must_use]
+    pub fn place(&self) -> u64 {
+        self.place
+    }
+
+    /// When the call is refused, in the table's words.
+    #[must_use]
+    pub fn when(&self) -> &'static str {
+        match self.number {
+            1 => "triangle slice not a multiple of 12 long",
+            2 => "more than 65,536 triangles",
+            3 => "index room shorter than the number of triangles",
+            4 => "node room too small in boxes or links",
+            5 => "a triangle isn't admitted",
+            6 => "the tree has a node deeper than 63",
+            7 => "ray not admitted",
+            8 => "links empty, not a multiple of 3, over 131,071 nodes, or boxes not twice as long as links",
+            9 => "bad node met",
+            10 => "index entry met is not below the number of triangles",
+            11 => "more than 64 pending",
+            12 => "a box test beyond the number of nodes",
+            _ => "a number that document 01 doesn't have",
+        }
+    }
+}
+
+impl fmt::Display for Refusal {
+    fn fmt(&self, f: &mut fmt::Formatter) -> fmt::Result {
+        write!(
+            f,
+            "refused {} at {}: {}",
+            self.number,
+            self.place,
+            self.when()
+        )
+    }
+}
+
+impl Error for Refusal {}

@@ -1,0 +1,117 @@
+//! Bad input gets its refusal, never a panic, and what is lent stays.
+
+use pigeonmast::{build_bvh, raw, Bvh, Ray, Refusal, Triangle, Vec3};
+
+const T: [f64; 12] = [0.0, 0.0, 0.0, 1.0, 0.0, 0.0, 0.0, 1.0, 0.0, 0.0, 0.0, 1.0];
+const UNIT: [f64; 6] = [0.0, 0.0, 0.0, 1.0, 1.0, 1.0];
+
+fn down() -> Ray {
+    Ray::new(Vec3::new(0.25, 0.25, 1.0), Vec3::new(0.0, 0.0, -1.0))
+}
+
+fn told(refusal: Refusal) -> (u32, u64) {
+    (refusal.number(), refusal.place())
+}
+
+#[test]
+fn of_a_build() {
+    let refused = |numbers: Vec<f64>| told(Bvh::from_numbers(numbers).unwrap_err());
+    assert_eq!(refused(vec![0.0; 11]), (1, 0));
+    assert_eq!(refused(vec![0.0; 12 * 65_537]), (2, 65_537));
+    let mut mesh = T.repeat(3);
+    mesh[12 * 2 + 9] = 2.5;
+    assert_eq!(refused(mesh.clone()), (5, 2));
+    mesh[12] = f64::NAN;
+    assert_eq!(refused(mesh), (5, 1));
+    let far = Triangle {
+        v0: Vec3::new(f64::INFINITY, 0.0, 0.0),
+        v1: Vec3::default(),
+        v2: Vec3::default(),
+        normal: Vec3::default(),
+    };
+    assert_eq!(told(build_bvh(&[far]).unwrap_err()), (5, 0));
+}
+
+#[test]
+fn of_rooms_that_are_short() {
+    for (index, boxes, links, wanted) in [
+        (1, 18, 9, (3, [0, 0])),
+        (2, 17, 9, (4, [3, 0])),
+        (2, 18, 8, (4, [3, 0])),
+        (0, 0, 0, (3, [0, 0])),
+        (3, 19, 10, (0, [1, 1])),
+    ] {
+        let (mut index, mut boxes, mut links) = (vec![9; index], vec![9.0; boxes], vec![9; links]);
+        let mut told = [9; 2];
+        let number = raw::build(&T.repeat(2), &mut index, &mut boxes, &mut links, &mut told);
+        assert_eq!((number, told), wanted);
+        let kept = |k: usize| if number == 0 { k } else { 0 };
+        assert!(index[kept(2)..].iter().all(|x| *x == 9));
+        assert!(boxes[kept(6)..].iter().all(|x| *x == 9.0));
+        assert!(links[kept(3)..].iter().all(|x| *x == 9));
+    }
+}
+
+#[test]
+fn of_a_walk() {
+    let bvh = Bvh::from_numbers(T.to_vec()).expect("T is admitted");
+    for bad in [f64::NAN, f64::INFINITY, 3.0] {
+        let mut ray = down();
+        ray.direction.y = bad;
+        assert_eq!(told(bvh.intersect(&ray).unwrap_err()), (7, 0));
+    }
+}
+
+#[test]
+fn of_foreign_lists() {
+    let walk = |index: &[u32], boxes: &[f64], links: &[u32]| {
+        let bvh = Bvh::from_lists(T.to_vec(), index.to_vec(), boxes.to_vec(), links.to_vec());
+        bvh.intersect(&down())
+            .map(|w| w.hit.is_some())
+            .map_err(told)
+    };
+    assert_eq!(walk(&[0], &UNIT, &[0, 1, 1]), Ok(true));
+    assert_eq!(walk(&[], &[], &[]), Err((8, 0)));
+    assert_eq!(walk(&[0], &UNIT, &[0, 1]), Err((8, 0)));
+    assert_eq!(walk(&[0], &UNIT[..5], &[0, 1, 1]), Err((8, 0)));
+    assert_eq!(walk(&[0], &UNIT, &[0, 1, 2]), Err((9, 0)));
+    assert_eq!(walk(&[0], &UNIT, &[0, 1, 0]), Err((9, 0)));
+    assert_eq!(walk(&[0], &[f64::NAN; 6], &[0, 1, 1]), Err((9, 0)));
+    assert_eq!(walk(&[0], &UNIT, &[u32::MAX, 1, 1]), Err((9, 0)));
+    assert_eq!(walk(&[0], &UNIT, &[1, u32::MAX, 1]), Err((9, 0)));
+    assert_eq!(walk(&[0], &UNIT, &[1, 0, 1]), Ok(false));
+    assert_eq!(walk(&[7], &UNIT, &[0, 1, 1]), Err((10, 0)));
+    assert_eq!(walk(&[0], &UNIT, &[0, 0, 0]), Err((9, 0)));
+    // A root that opens itself: a box test beyond the two nodes.
+    assert_eq!(
+        walk(&[0], &UNIT.repeat(2), &[0, 0, 0, 0, 0, 0]),
+        Err((12, 0))
+    );
+    // The same among many nodes: the 65th pending.
+    let mut links = vec![0; 3 * 100];
+    links[0] = 0;
+    assert_eq!(walk(&[0], &UNIT.repeat(100), &links), Err((11, 0)));
+}
+
+#[test]
+fn leave_numbers_and_times_alone() {
+    let (mut numbers, mut told, mut times) = ([9.0; 7], [9; 4], [9.0; 2]);
+    let away = [2.0, 0.25, 1.0, 0.0, 0.0, -1.0];
+    let number = raw::walk(&T, &[0], &UNIT, &[0, 1, 1], &away, &mut numbers, &mut told);
+    assert_eq!((number, numbers, told), (0, [9.0; 7], [0, 0, 1, 0]));
+    assert_eq!(
+        (raw::triangle(&T, &away, &mut numbers), numbers),
+        (0, [9.0; 7])
+    );
+    assert_eq!((raw::slab(&UNIT, &away, &mut times), times), (0, [9.0; 2]));
+}
+
+#[test]
+fn read_as_the_document_words_them() {
+    let refusal = Bvh::from_numbers(vec![f64::NAN; 12]).unwrap_err();
+    assert_eq!(
+        refusal.to_string(),
+        "refused 5 at 0: a triangle isn't admitted"
+    );
+    let _: &dyn std::error::Error = &refusal;
+}

@@ -1,0 +1,33 @@
+//! The four calls under test, by value: Pigeonmast's, or the reading's.
+
+pub type Build = fn(&[f64], &mut [u32], &mut [f64], &mut [u32], &mut [u64; 2]) -> u32;
+pub type Walk = fn(&[f64], &[u32], &[f64], &[u32], &[f64; 6], &mut [f64; 7], &mut [u64; 4]) -> u32;
+
+#[derive(Clone, Copy)]
+pub struct Calls {
+    pub build: Build,
+    pub walk: Walk,
+    pub slab: fn(&[f64; 6], &[f64; 6], &mut [f64; 2]) -> u32,
+    pub triangle: fn(&[f64; 12], &[f64; 6], &mut [f64; 7]) -> u32,
+}
+
+pub const READING: Calls = Calls {
+    build: reading::calls::build,
+    walk: reading::calls::walk,
+    slab: reading::calls::slab,
+    triangle: reading::calls::triangle,
+};
+
+/// Equal bit for bit; two NaNs count as one.
+pub fn same(a: f64, b: f64) -> bool {
+    a.to_bits() == b.to_bits() || (a.is_nan() && b.is_nan())
+}
+
+/// Equal as numbers; two NaNs count as one.
+pub fn equal(a: f64, b: f64) -> bool {
+    a == b || (a.is_nan() && b.is_nan())
+}
+
+pub fn all(a: &[f64], b: &[f64], one: fn(f64, f64) -> bool) -> bool {
+    a.len() == b.len() && a.iter().zip(b).all(|(x, y)| one(*x, *y))
+}

@@ -1,0 +1,264 @@
+//! The fixed list of answers that the program `replay` compares itself with;
+//! README.md describes the file. Each case is held to the published Rust (where
+//! it answers at all) as it is written; a difference stops the command.
+
+use crate::calls::READING;
+use crate::mesh_check::{self, Case, Tally};
+use crate::random::Random;
+use crate::rays::{self, Ray};
+use crate::{functions, hostile, meshes, node_room, Lists};
+use std::collections::BTreeMap;
+
+pub const SEED: u64 = 8_128;
+pub const MAGIC: &[u8; 8] = b"PIGEON01";
+/// What every place of a lent room holds before a call.
+pub const WORD: u32 = 0xa5a5_a5a5;
+pub const NUMBER: f64 = -7.5;
+/// No case is longer than these, so that the reader's arrays can be fixed.
+const MOST: [usize; 4] = [1_024, 128, 1_024, 512];
+
+/// By call and answer.
+pub type Answers = BTreeMap<(&'static str, u32), u32>;
+
+#[derive(Default)]
+struct File {
+    bytes: Vec<u8>,
+    cases: u32,
+    answers: Answers,
+}
+
+impl File {
+    fn word(&mut self, x: u32) {
+        self.bytes.extend(x.to_le_bytes());
+    }
+
+    fn words(&mut self, list: &[u32]) {
+        list.iter().for_each(|x| self.word(*x));
+    }
+
+    /// Every NaN is written as one.
+    fn numbers(&mut self, list: &[f64]) {
+        for x in list {
+            let x = if x.is_nan() { f64::NAN.abs() } else { *x };
+            self.bytes.extend(x.to_bits().to_le_bytes());
+        }
+    }
+
+    fn told(&mut self, list: &[u64]) {
+        list.iter().for_each(|x| self.bytes.extend(x.to_le_bytes()));
+    }
+
+    fn start(&mut self, kind: u8) {
+        self.cases += 1;
+        self.bytes.push(kind);
+    }
+
+    fn answer(&mut self, call: &'static str, number: u32) {
+        self.word(number);
+        *self.answers.entry((call, number)).or_default() += 1;
+    }
+
+    fn lengths(&mut self, mesh: &[f64], lists: &Lists) -> Result<(), String> {
+        let lengths = [
+            mesh.len(),
+            lists.index.len(),
+            lists.boxes.len(),
+            lists.links.len(),
+        ];
+        for (length, most) in lengths.into_iter().zip(MOST) {
+            if length > most {
+                return Err(format!("a case has lists of {lengths:?}, over {MOST:?}"));
+            }
+            self.word(length as u32);
+        }
+        Ok(())
+    }
+
+    fn build(&mut self, mesh: &[f64], [index, boxes, links]: [usize; 3]) -> Result<(), String> {
+        let mut lists = Lists {
+            index: vec![WORD; index],
+            boxes: vec![NUMBER; boxes],
+            links: vec![WORD; links],
+        };
+        self.start(1);
+        self.lengths(mesh, &lists)?;
+        self.numbers(mesh);
+        let mut told = [0; 2];
+        let number = (READING.build)(
+            mesh,
+            &mut lists.index,
+            &mut lists.boxes,
+            &mut lists.links,
+            &mut told,
+        );
+        self.answer("build", number);
+        self.told(&told);
+        self.words(&lists.index);
+        self.numbers(&lists.boxes);
+        self.words(&lists.links);
+        Ok(())
+    }
+
+    fn walk(&mut self, mesh: &[f64], lists: &Lists, rays: &[Ray]) -> Result<(), String> {
+        self.start(2);
+        self.lengths(mesh, lists)?;
+        self.numbers(mesh);
+        self.words(&lists.index);
+        self.numbers(&lists.boxes);
+        self.words(&lists.links);
+        self.word(rays.len() as u32);
+        for ray in rays {
+            let (mut numbers, mut told) = ([NUMBER; 7], [0; 4]);
+            let number = (READING.walk)(
+                mesh,
+                &lists.index,
+                &lists.boxes,
+                &lists.links,
+                ray,
+                &mut numbers,
+                &mut told,
+            );
+            self.numbers(ray);
+            self.answer("walk", number);
+            self.numbers(&numbers);
+            self.told(&told);
+        }
+        Ok(())
+    }
+}
+
+/// A mesh: its build with room to spare, with a room that is short, and a walk
+/// of eight rays.
+fn mesh_cases(file: &mut File, r: &mut Random, mesh: Vec<f64>) -> Result<(), String> {
+    let kinds = rays::KINDS;
+    let rays: Vec<Ray> = (0..8)
+        .map(|_| kinds[r.below(kinds.len())].1(r, &mesh))
+        .collect();
+    let case = Case {
+        mesh,
+        rays,
+        seed: r.bits() >> 8,
+    };
+    mesh_check::check(&READING, &case, &mut Tally::default())?;
+    let mesh = &case.mesh;
+    let n = mesh.len() / 12;
+    let room = node_room(n);
+    file.build(
+        mesh,
+        [n + r.below(3), 6 * room + r.below(8), 3 * room + r.below(5)],
+    )?;
+    if n < 10 && r.one_in(2) {
+        let mut around = |exact: usize| (exact + r.below(3)).saturating_sub(1);
+        file.build(mesh, [around(n), around(6 * room), around(3 * room)])?;
+    }
+    let mut lists = Lists::rooms(r, n, 6 * room, 3 * room);
+    let built = reading::builder::build(mesh, &mut lists.index, &mut lists.boxes, &mut lists.links);
+    if let Ok(built) = built {
+        lists.boxes.truncate(6 * built.nodes);
+        lists.links.truncate(3 * built.nodes);
+        file.walk(mesh, &lists, &case.rays)?;
+    }
+    Ok(())
+}
+
+/// Counts what was kept of each answer, so that rare ones are there as well.
+struct Kept(BTreeMap<u32, u32>, u32);
+
+impl Kept {
+    fn wants(&mut self, number: u32) -> bool {
+        let kept = self.0.entry(number).or_default();
+        *kept += 1;
+        *kept <= self.1
+    }
+}
+
+fn hostile_cases(file: &mut File, r: &mut Random) -> Result<(), String> {
+    for (_, make) in hostile::KINDS {
+        let mut kept = Kept(BTreeMap::new(), 5);
+        for _ in 0..2_000 {
+            let case = make(r);
+            let lists = &case.lists;
+            let number = (READING.walk)(
+                &case.mesh,
+                &lists.index,
+                &lists.boxes,
+                &lists.links,
+                &case.ray,
+                &mut [NUMBER; 7],
+                &mut [0; 4],
+            );
+            if kept.wants(number) {
+                file.walk(&case.mesh, lists, &[case.ray])?;
+            }
+        }
+    }
+    Ok(())
+}
+
+fn slab_cases(file: &mut File, r: &mut Random) -> Result<(), String> {
+    let mut kept = Kept(BTreeMap::new(), 150);
+    for _ in 0..4_000 {
+        let (bounds, ray) = functions::slab_case(r);
+        functions::slab(&READING, &bounds, &ray)?;
+        let mut times = [NUMBER; 2];
+        let number = (READING.slab)(&bounds, &ray, &mut times);
+        if kept.wants(number) {
+            file.start(3);
+            file.numbers(&bounds);
+            file.numbers(&ray);
+            file.answer("slab", number);
+            file.numbers(&times);
+        }
+    }
+    Ok(())
+}
+
+fn triangle_cases(file: &mut File, r: &mut Random) -> Result<(), String> {
+    let mut kept = Kept(BTreeMap::new(), 100);
+    for _ in 0..4_000 {
+        let (t, ray) = functions::triangle_case(r);
+        functions::triangle(&READING, &t, &ray)?;
+        let mut numbers = [NUMBER; 7];
+        let number = (READING.triangle)(&t, &ray, &mut numbers);
+        if kept.wants(number) {
+            file.start(4);
+            file.numbers(&t);
+            file.numbers(&ray);
+            file.answer("triangle", number);
+            file.numbers(&numbers);
+        }
+    }
+    Ok(())
+}
+
+/// The whole file, and how often each call gives each answer in it.
+pub fn write() -> Result<(Vec<u8>, Answers), String> {
+    let mut file = File::default();
+    let mut r = Random::new(SEED);
+    for (name, make) in meshes::KINDS {
+        if name.starts_with("chain") {
+            continue;
+        }
+        for size in [0, 1, 4, 5, 6, 7, 9, 12, 20] {
+            let mesh = make(&mut r, size);
+            mesh_cases(&mut file, &mut r, mesh)?;
+        }
+    }
+    for n in [66, 67, 68, 72] {
+        let mesh = meshes::chain(&mut r, n);
+        mesh_cases(&mut file, &mut r, mesh)?;
+    }
+    for length in [1, 11, 13] {
+        file.build(&vec![0.5; length], [2, 12, 6])?;
+    }
+    hostile_cases(&mut file, &mut r)?;
+    slab_cases(&mut file, &mut r)?;
+    triangle_cases(&mut file, &mut r)?;
+    let mut bytes = MAGIC.to_vec();
+    bytes.extend(file.cases.to_le_bytes());
+    bytes.extend(&file.bytes);
+    if bytes.len() > 1_000_000 {
+        return Err(format!("{} bytes are over 1 MB", bytes.len()));
+    }
+    Ok((bytes, file.answers))
+}

@@ -1,0 +1,276 @@
+//! A whole seeded run over all checks, with what it compared and what differed.
+
+use crate::calls::Calls;
+use crate::mesh_check::{self, Case, Tally};
+use crate::random::Random;
+use crate::{
+    foreign_check, functions, hostile, meshes, node_room, rays, reading_check, show, Lists,
+};
+
+#[derive(Clone, Copy)]
+pub struct Plan {
+    pub seed: u64,
+    pub meshes: usize,
+    pub rays_per_mesh: usize,
+    pub large_meshes: usize,
+    pub hostile: usize,
+    pub functions: usize,
+}
+
+pub const QUICK: Plan = Plan {
+    seed: 20_260,
+    meshes: 12_000,
+    rays_per_mesh: 12,
+    large_meshes: 3,
+    hostile: 100_000,
+    functions: 1_000_000,
+};
+
+pub const LONG: Plan = Plan {
+    seed: 1_000_003,
+    meshes: 120_000,
+    rays_per_mesh: 12,
+    large_meshes: 30,
+    hostile: 1_500_000,
+    functions: 20_000_000,
+};
+
+/// Prints as it goes. Answers how many differed.
+pub fn all(calls: &Calls, plan: &Plan) -> u64 {
+    let parts = [
+        every_mesh(calls, plan),
+        large_meshes(calls, plan),
+        every_hostile(calls, plan),
+        every_function(calls, plan),
+    ];
+    parts.iter().sum()
+}
+
+/// Differences of one part: counted, and the smallest kept to be shown.
+#[derive(Default)]
+struct Found {
+    count: u64,
+    smallest: Option<(usize, String)>,
+}
+
+impl Found {
+    fn add(&mut self, size: usize, text: impl FnOnce() -> String) {
+        self.count += 1;
+        if self
+            .smallest
+            .as_ref()
+            .is_none_or(|(least, _)| size < *least)
+        {
+            self.smallest = Some((size, text()));
+        }
+    }
+
+    fn end(self) -> u64 {
+        if let Some((_, text)) = self.smallest {
+            println!("  DIFFERENCES: {}; the smallest:\n{text}", self.count);
+        }
+        self.count
+    }
+}
+
+/// Mostly few triangles: boundaries lie there.
+fn size(r: &mut Random) -> usize {
+    match r.below(40) {
+        0 => r.whole(200, 1_200),
+        1..=5 => r.whole(40, 200),
+        6..=20 => r.whole(10, 40),
+        _ => r.below(12),
+    }
+}
+
+fn every_mesh(calls: &Calls, plan: &Plan) -> u64 {
+    let mut found = Found::default();
+    let mut whole = Tally::default();
+    println!("meshes, seed {}:", plan.seed);
+    for (kind, (name, make)) in meshes::KINDS.iter().enumerate() {
+        let mut tally = Tally::default();
+        for k in 0..plan.meshes.div_ceil(meshes::KINDS.len()) {
+            let seed = plan.seed + ((kind * 10_000_000 + k) as u64) * 2;
+            let mut r = Random::new(seed);
+            let n = size(&mut r);
+            let mesh = make(&mut r, n);
+            let mut rays = Vec::new();
+            for _ in 0..plan.rays_per_mesh {
+                let kind = rays::KINDS[r.below(rays::KINDS.len())];
+                rays.push(kind.1(&mut r, &mesh));
+            }
+            let case = Case { mesh, rays, seed };
+            if let Err(why) = mesh_check::check(calls, &case, &mut tally) {
+                found.add(case.mesh.len(), || {
+                    let least = show::smallest(calls, &case);
+                    format!("  {name}: {why}\n  {}", show::mesh(&least))
+                });
+            }
+        }
+        line(name, &tally);
+        whole = plus(whole, tally);
+    }
+    line("all", &whole);
+    println!(
+        "  of those by fallback the Rust's own order gives {} other trees, and {} rays another hit there ({} with another t)",
+        whole.other_trees, whole.other_hits, whole.other_times
+    );
+    found.end()
+}
+
+fn plus(a: Tally, b: Tally) -> Tally {
+    Tally {
+        meshes: a.meshes + b.meshes,
+        triangles: a.triangles + b.triangles,
+        refused: a.refused + b.refused,
+        refused_as_deep: a.refused_as_deep + b.refused_as_deep,
+        fallback: a.fallback + b.fallback,
+        other_trees: a.other_trees + b.other_trees,
+        other_hits: a.other_hits + b.other_hits,
+        other_times: a.other_times + b.other_times,
+        rays: a.rays + b.rays,
+        hits: a.hits + b.hits,
+        rays_refused: a.rays_refused + b.rays_refused,
+    }
+}
+
+fn line(name: &str, t: &Tally) {
+    println!(
+        "  {name}: {} meshes of {} triangles ({} refused 5, {} refused 6, {} by fallback), {} rays ({} hits, {} refused 7)",
+        t.meshes, t.triangles, t.refused, t.refused_as_deep, t.fallback, t.rays, t.hits, t.rays_refused
+    );
+}
+
+/// Thousands of triangles each, up to 65,536, and refusal 2 above it.
+fn large_meshes(calls: &Calls, plan: &Plan) -> u64 {
+    let mut found = Found::default();
+    let mut tally = Tally::default();
+    let mut r = Random::new(plan.seed ^ 2);
+    for k in 0..plan.large_meshes {
+        let n = if k < 3 {
+            65_536
+        } else {
+            r.whole(3_001, 20_000)
+        };
+        let mesh = match k % 3 {
+            0 => meshes::terrain(&mut r, n),
+            1 => meshes::soup(&mut r, n),
+            _ => meshes::ulps(&mut r, n),
+        };
+        let rays = (0..200)
+            .map(|_| rays::KINDS[r.below(rays::KINDS.len())].1(&mut r, &mesh))
+            .collect();
+        let seed = plan.seed + k as u64;
+        let case = Case { mesh, rays, seed };
+        if let Err(why) = mesh_check::check(calls, &case, &mut tally) {
+            found.add(case.mesh.len(), || {
+                format!("  {} triangles, seed {seed}: {why}", n)
+            });
+        }
+    }
+    for n in [65_537, 70_001] {
+        let mesh = vec![0.25; 12 * n];
+        let rooms = Lists::rooms(&mut r, n, 6 * node_room(n), 3 * node_room(n));
+        if let Err(why) = reading_check::build(calls, &mesh, &rooms) {
+            found.add(mesh.len(), || format!("  {n} triangles: {why}"));
+        }
+    }
+    line("large", &tally);
+    found.end()
+}
+
+fn every_hostile(calls: &Calls, plan: &Plan) -> u64 {
+    let mut found = Found::default();
+    println!("hostile lists, seed {}:", plan.seed ^ 3);
+    // The Rust's panics on the 65th pending are awaited, and not worth a line.
+    let hook = std::panic::take_hook();
+    std::panic::set_hook(Box::new(|_| {}));
+    for (kind, (name, make)) in hostile::KINDS.iter().enumerate() {
+        let mut answers = std::collections::BTreeMap::new();
+        let mut r = Random::new((plan.seed ^ 3) + kind as u64 * 1_000_000_007);
+        for k in 0..plan.hostile / hostile::KINDS.len() {
+            let case = make(&mut r);
+            let walk = if k % 8 == 0 {
+                reading_check::walk_writes_nothing
+            } else {
+                reading_check::walk
+            };
+            match walk(calls, &case.mesh, &case.lists, &case.ray) {
+                Ok(number) => *answers.entry(number).or_insert(0_u64) += 1,
+                Err(why) => found.add(case.lists.links.len() + case.mesh.len(), || {
+                    format!("  {name}: {why}\n  {}", show::hostile(&case))
+                }),
+            }
+            if let Err(why) = foreign_check::check(&case) {
+                found.add(case.lists.links.len(), || {
+                    format!("  {name}: {why}\n  {}", show::hostile(&case))
+                });
+            }
+            if let Err(why) = odd_build(calls, &mut r, &case) {
+                found.add(case.mesh.len(), || {
+                    format!("  {name}, built: {why}\n  {}", show::hostile(&case))
+                });
+            }
+        }
+        println!("  {name}: answers {answers:?} (0 a miss, 100 a hit, else the refusal)");
+    }
+    std::panic::set_hook(hook);
+    for case in hostile::large(&mut Random::new(plan.seed ^ 5)) {
+        match reading_check::walk_writes_nothing(calls, &case.mesh, &case.lists, &case.ray) {
+            Ok(number) => println!(
+                "  {} nodes, {} triangles: {number}",
+                case.lists.links.len() / 3,
+                case.mesh.len() / 12
+            ),
+            Err(why) => found.add(usize::MAX, || format!("  large: {why}")),
+        }
+    }
+    found.end()
+}
+
+/// A build of whatever triangles a hostile case has, into rooms of any length.
+fn odd_build(calls: &Calls, r: &mut Random, case: &hostile::Hostile) -> Result<u32, String> {
+    let n = case.mesh.len() / 12;
+    let room = node_room(n);
+    let mut about = |exact: usize| (exact + r.below(4)).saturating_sub(r.below(3));
+    let lengths = [about(n), about(6 * room), about(3 * room)];
+    let rooms = Lists::rooms(r, lengths[0], lengths[1], lengths[2]);
+    reading_check::build(calls, &case.mesh, &rooms)
+}
+
+fn every_function(calls: &Calls, plan: &Plan) -> u64 {
+    let mut found = Found::default();
+    let mut r = Random::new(plan.seed ^ 4);
+    let (mut slabs, mut met) = (0_u64, 0_u64);
+    for _ in 0..plan.functions {
+        let (bounds, ray) = functions::slab_case(&mut r);
+        match functions::slab(calls, &bounds, &ray) {
+            Ok(passed) => slabs += u64::from(passed),
+            Err(why) => found.add(0, || {
+                format!(
+                    "  {why}\n  box {}\n  ray {}",
+                    show::bits(&bounds),
+                    show::bits(&ray)
+                )
+            }),
+        }
+        let (t, ray) = functions::triangle_case(&mut r);
+        match functions::triangle(calls, &t, &ray) {
+            Ok(hit) => met += u64::from(hit),
+            Err(why) => found.add(0, || {
+                format!(
+                    "  {why}\n  triangle {}\n  ray {}",
+                    show::bits(&t),
+                    show::bits(&ray)
+                )
+            }),
+        }
+    }
+    println!(
+        "functions on arbitrary numbers, seed {}: {} slab tests ({slabs} passed), {} triangle tests ({met} met)",
+        plan.seed ^ 4,
+        plan.functions,
+        plan.functions
+    );
+    found.end()
+}

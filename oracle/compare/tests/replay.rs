@@ -1,0 +1,111 @@
+//! The replay data can be read from front to back with nothing but the sizes in
+//! it, and holds what the reading answers.
+
+use compare::calls::{all, equal, same, READING};
+use compare::replay::{write, MAGIC, NUMBER, WORD};
+use compare::Lists;
+
+struct Reader<'a>(&'a [u8]);
+
+impl Reader<'_> {
+    fn bytes<const K: usize>(&mut self) -> [u8; K] {
+        let (now, rest) = self.0.split_at(K);
+        self.0 = rest;
+        now.try_into().unwrap()
+    }
+
+    fn word(&mut self) -> u32 {
+        u32::from_le_bytes(self.bytes())
+    }
+
+    fn words(&mut self, n: usize) -> Vec<u32> {
+        (0..n).map(|_| self.word()).collect()
+    }
+
+    fn numbers(&mut self, n: usize) -> Vec<f64> {
+        (0..n).map(|_| f64::from_le_bytes(self.bytes())).collect()
+    }
+
+    fn record<const K: usize>(&mut self) -> [f64; K] {
+        self.numbers(K).try_into().unwrap()
+    }
+
+    fn told<const K: usize>(&mut self) -> [u64; K] {
+        std::array::from_fn(|_| u64::from_le_bytes(self.bytes()))
+    }
+}
+
+fn build(r: &mut Reader) {
+    let [t, i, b, l] = [0; 4].map(|_: u32| r.word() as usize);
+    let mesh = r.numbers(t);
+    let (mut index, mut boxes, mut links) = (vec![WORD; i], vec![NUMBER; b], vec![WORD; l]);
+    let mut told = [0; 2];
+    let number = (READING.build)(&mesh, &mut index, &mut boxes, &mut links, &mut told);
+    assert_eq!((number, told), (r.word(), r.told()));
+    assert_eq!(index, r.words(i));
+    assert!(all(&boxes, &r.numbers(b), equal));
+    assert_eq!(links, r.words(l));
+}
+
+fn walk(r: &mut Reader) -> u32 {
+    let [t, i, b, l] = [0; 4].map(|_: u32| r.word() as usize);
+    let mesh = r.numbers(t);
+    let lists = Lists {
+        index: r.words(i),
+        boxes: r.numbers(b),
+        links: r.words(l),
+    };
+    let rays = r.word();
+    for _ in 0..rays {
+        let ray = r.record();
+        let (mut numbers, mut told) = ([NUMBER; 7], [0; 4]);
+        let answer = (READING.walk)(
+            &mesh,
+            &lists.index,
+            &lists.boxes,
+            &lists.links,
+            &ray,
+            &mut numbers,
+            &mut told,
+        );
+        assert_eq!(answer, r.word());
+        assert!(all(&numbers, &r.numbers(7), same));
+        assert_eq!(told, r.told());
+    }
+    rays
+}
+
+#[test]
+fn reads_from_front_to_back() {
+    let (file, answers) = write().unwrap();
+    let mut r = Reader(&file);
+    assert_eq!(&r.bytes(), MAGIC);
+    let cases = r.word();
+    let mut compared = 0;
+    for _ in 0..cases {
+        compared += 1;
+        match r.bytes() {
+            [1] => build(&mut r),
+            [2] => compared += walk(&mut r) - 1,
+            [3] => {
+                let (bounds, ray, mut times) = (r.record(), r.record(), [NUMBER; 2]);
+                assert_eq!((READING.slab)(&bounds, &ray, &mut times), r.word());
+                assert!(all(&times, &r.numbers(2), equal));
+            }
+            [4] => {
+                let (t, ray, mut numbers) = (r.record(), r.record(), [NUMBER; 7]);
+                assert_eq!((READING.triangle)(&t, &ray, &mut numbers), r.word());
+                assert!(all(&numbers, &r.numbers(7), same));
+            }
+            [kind] => panic!("kind {kind}"),
+        }
+    }
+    assert!(r.0.is_empty());
+    assert_eq!(answers.values().sum::<u32>(), compared);
+    for number in [0, 1, 5, 7, 8, 9, 10, 11, 12, 100] {
+        assert!(answers.contains_key(&("walk", number)), "walk {number}");
+    }
+    for number in [0, 1, 3, 4, 5, 6] {
+        assert!(answers.contains_key(&("build", number)), "build {number}");
+    }
+}

@@ -1,0 +1,74 @@
+//! The reading behind the boundary of the four exported calls.
+
+use crate::walk::Answer;
+use crate::{boxes, builder, triangles, walk as walker};
+
+pub fn build(
+    triangles: &[f64],
+    index: &mut [u32],
+    boxes: &mut [f64],
+    links: &mut [u32],
+    told: &mut [u64; 2],
+) -> u32 {
+    match builder::build(triangles, index, boxes, links) {
+        Ok(built) => {
+            *told = [built.nodes as u64, built.leaves as u64];
+            0
+        }
+        Err(refusal) => {
+            *told = [refusal.at, 0];
+            refusal.number
+        }
+    }
+}
+
+pub fn walk(
+    triangles: &[f64],
+    index: &[u32],
+    boxes: &[f64],
+    links: &[u32],
+    ray: &[f64; 6],
+    numbers: &mut [f64; 7],
+    told: &mut [u64; 4],
+) -> u32 {
+    match walker::walk(triangles, index, boxes, links, ray) {
+        Ok(Answer::Hit(met, i, counts)) => {
+            *numbers = met.numbers;
+            *told = [
+                u64::from(i),
+                u64::from(met.front),
+                counts.boxes,
+                counts.triangles,
+            ];
+            100
+        }
+        Ok(Answer::Miss(counts)) => {
+            *told = [0, 0, counts.boxes, counts.triangles];
+            0
+        }
+        Err(refusal) => {
+            *told = [refusal.at, 0, 0, 0];
+            refusal.number
+        }
+    }
+}
+
+pub fn slab(bounds: &[f64; 6], ray: &[f64; 6], times: &mut [f64; 2]) -> u32 {
+    match boxes::slab(*bounds, *ray) {
+        Some(found) => {
+            *times = found;
+            1
+        }
+        None => 0,
+    }
+}
+
+pub fn triangle(triangle: &[f64; 12], ray: &[f64; 6], numbers: &mut [f64; 7]) -> u32 {
+    match triangles::meet(triangle, ray) {
+        Some(met) => {
+            *numbers = met.numbers;
+            1 + u32::from(met.front)
+        }
+        None => 0,
+    }
+}

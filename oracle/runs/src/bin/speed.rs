@@ -1,0 +1,144 @@
+//! Build and walk, the published Rust beside Pigeonmast, as a markdown table.
+//!
+//!     cargo run --release --bin speed
+//!
+//! Same meshes and rays, the two sides in turn, the least of several runs. The
+//! Rust's build allocates its lists; Pigeonmast's are lent, made once before.
+
+use compare::random::Random;
+use compare::{meshes, node_room, rays, world, Lists};
+use optics_core::Ray;
+use pigeonmast::raw;
+use published::builder::build_bvh;
+use published::scene::intersect_blas;
+use runs::stop;
+use std::hint::black_box;
+use std::time::Instant;
+
+const RAYS: usize = 10_000;
+const SIZES: [usize; 3] = [1_000, 10_000, 65_536];
+
+/// The least ns of either side, in turn, so that neither has the quieter
+/// machine.
+fn least(runs: usize, mut rust: impl FnMut(), mut pigeonmast: impl FnMut()) -> [f64; 2] {
+    let mut best = [f64::INFINITY; 2];
+    for _ in 0..runs {
+        for (side, run) in [&mut rust as &mut dyn FnMut(), &mut pigeonmast]
+            .into_iter()
+            .enumerate()
+        {
+            let start = Instant::now();
+            run();
+            best[side] = best[side].min(start.elapsed().as_nanos() as f64);
+        }
+    }
+    best
+}
+
+fn row(what: &str, per: f64, ns: [f64; 2]) {
+    let [rust, ours] = ns.map(|x| x / per);
+    println!("| {what} | {rust:.0} | {ours:.0} | {:.2} |", ours / rust);
+}
+
+fn build(mesh: &[f64], lists: &mut Lists) -> [u64; 2] {
+    let mut told = [0; 2];
+    let number = raw::build(
+        mesh,
+        &mut lists.index,
+        &mut lists.boxes,
+        &mut lists.links,
+        &mut told,
+    );
+    if number != 0 {
+        stop(&format!(
+            "speed: the build is refused: {number} at {}",
+            told[0]
+        ));
+    }
+    told
+}
+
+fn compare_on(name: &str, mesh: &[f64], r: &mut Random) {
+    let n = mesh.len() / 12;
+    let triangles = world::triangles(mesh);
+    let room = node_room(n);
+    let mut lists = Lists::rooms(r, n, 6 * room, 3 * room);
+    let nodes = build(mesh, &mut lists)[0] as usize;
+    let runs = if n > 20_000 { 5 } else { 9 };
+    let built = least(
+        runs,
+        || {
+            black_box(build_bvh(black_box(&triangles)));
+        },
+        || {
+            black_box(build(black_box(mesh), &mut lists));
+        },
+    );
+    row(&format!("build, {name}, {n} triangles"), n as f64, built);
+
+    lists.boxes.truncate(6 * nodes);
+    lists.links.truncate(3 * nodes);
+    let tree = world::build_ordered(&triangles).0;
+    let kinds = [0, 2, 6].map(|k| rays::KINDS[k].1);
+    let lent: Vec<[f64; 6]> = (0..RAYS).map(|k| kinds[k % 3](r, mesh)).collect();
+    let given: Vec<Ray> = lent.iter().map(world::ray).collect();
+    let (mut hits, mut ours) = (0_u64, 0_u64);
+    let walked = least(
+        runs,
+        || {
+            hits = 0;
+            for ray in &given {
+                let hit = intersect_blas(black_box(ray), &tree.nodes, &triangles, &tree.indices, 0);
+                hits += u64::from(black_box(hit).is_some());
+            }
+        },
+        || {
+            ours = 0;
+            let (mut numbers, mut told) = ([0.0; 7], [0; 4]);
+            for ray in &lent {
+                let number = raw::walk(
+                    mesh,
+                    &lists.index,
+                    &lists.boxes,
+                    &lists.links,
+                    black_box(ray),
+                    &mut numbers,
+                    &mut told,
+                );
+                ours += u64::from(black_box(number) == raw::HIT);
+            }
+        },
+    );
+    row(
+        &format!("walk, {name}, {n} triangles ({hits} hits)"),
+        RAYS as f64,
+        walked,
+    );
+    if hits != ours {
+        stop(&format!(
+            "speed: {ours} hits, the Rust {hits}: run the differential"
+        ));
+    }
+}
+
+fn main() {
+    if std::env::args().len() > 1 {
+        stop("usage: speed (it takes no words)");
+    }
+    println!(
+        "ns a triangle (build) and ns a ray (walk), {RAYS} rays; least of 5 to 9 runs in turn.\n"
+    );
+    println!("| what | Rust | Pigeonmast | ratio |");
+    println!("|---|---:|---:|---:|");
+    let mut r = Random::new(4_711);
+    for n in SIZES {
+        let mesh = meshes::terrain(&mut r, n);
+        compare_on("terrain with houses", &mesh, &mut r);
+    }
+    for n in SIZES {
+        let mesh = meshes::even_soup(&mut r, n);
+        compare_on("soup", &mesh, &mut r);
+    }
+    let mesh = meshes::worst(&mut r, 65_536);
+    compare_on("worst case, the fallback", &mesh, &mut r);
+}

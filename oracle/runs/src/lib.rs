@@ -1,0 +1,19 @@
+//! What the commands share: Pigeonmast's four calls.
+
+use compare::calls::Calls;
+use pigeonmast::raw;
+
+pub mod safe_calls;
+
+pub const PIGEONMAST: Calls = Calls {
+    build: raw::build,
+    walk: raw::walk,
+    slab: raw::slab,
+    triangle: raw::triangle,
+};
+
+/// A clear line, and the status of bad usage.
+pub fn stop(line: &str) -> ! {
+    eprintln!("{line}");
+    std::process::exit(2);
+}

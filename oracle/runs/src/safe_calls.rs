@@ -1,0 +1,85 @@
+//! The crate's own types on top of the four calls: that nothing is lost or
+//! turned around between `Bvh` and `raw`.
+
+use compare::random::Random;
+use compare::{meshes, rays};
+use pigeonmast::{raw, Bvh, Ray};
+
+fn told(answer: Result<pigeonmast::Walk, pigeonmast::Refusal>) -> (u32, [u64; 4], [f64; 7]) {
+    let walk = match answer {
+        Ok(walk) => walk,
+        Err(refusal) => return (refusal.number(), [refusal.place(), 0, 0, 0], [0.0; 7]),
+    };
+    let counts = [walk.box_tests, walk.triangle_tests];
+    match walk.hit {
+        None => (0, [0, 0, counts[0], counts[1]], [0.0; 7]),
+        Some(h) => {
+            let [px, py, pz]: [f64; 3] = h.point.into();
+            let [nx, ny, nz]: [f64; 3] = h.normal.into();
+            let front = u64::from(h.is_front_face);
+            let numbers = [h.t, px, py, pz, nx, ny, nz];
+            (
+                raw::HIT,
+                [h.triangle as u64, front, counts[0], counts[1]],
+                numbers,
+            )
+        }
+    }
+}
+
+fn one(seed: u64) -> Result<u64, String> {
+    let mut r = Random::new(seed);
+    let make = meshes::KINDS[r.below(meshes::KINDS.len())].1;
+    let n = r.whole(0, 30);
+    let mesh = make(&mut r, n);
+    let read = compare::Lists::rooms(&mut r, mesh.len() / 12, 0, 0);
+    let room = compare::node_room(mesh.len() / 12);
+    let (mut index, mut boxes, mut links) = (read.index, vec![0.0; 6 * room], vec![0; 3 * room]);
+    let wanted = reading::builder::build(&mesh, &mut index, &mut boxes, &mut links);
+    let bvh = match (Bvh::from_numbers(mesh.clone()), wanted) {
+        (Err(refusal), Err(w)) if (refusal.number(), refusal.place()) == (w.number, w.at) => {
+            return Ok(0)
+        }
+        (Ok(bvh), Ok(w)) if (bvh.node_count(), bvh.leaf_count()) == (w.nodes, w.leaves) => bvh,
+        (got, wanted) => return Err(format!("Bvh::from_numbers {got:?}, the reading {wanted:?}")),
+    };
+    let nodes = bvh.node_count();
+    for k in 0..8 {
+        let ray = rays::KINDS[r.below(rays::KINDS.len())].1(&mut r, &mesh);
+        let (mut numbers, mut wanted_told) = ([0.0; 7], [0; 4]);
+        let number = reading::calls::walk(
+            &mesh,
+            &index,
+            &boxes[..6 * nodes],
+            &links[..3 * nodes],
+            &ray,
+            &mut numbers,
+            &mut wanted_told,
+        );
+        let [ox, oy, oz, dx, dy, dz] = ray;
+        let lent = Ray::new([ox, oy, oz].into(), [dx, dy, dz].into());
+        let got = told(bvh.intersect(&lent));
+        if got != (number, wanted_told, numbers) {
+            return Err(format!("Bvh::intersect, ray {k}: {got:?}, the reading {number} {wanted_told:?} {numbers:?}"));
+        }
+    }
+    Ok(8)
+}
+
+/// Answers how many differed.
+pub fn check(seed: u64, meshes: u64) -> u64 {
+    let (mut rays, mut differed) = (0, 0);
+    for k in 0..meshes {
+        match one(seed + k) {
+            Ok(walked) => rays += walked,
+            Err(why) => {
+                differed += 1;
+                if differed == 1 {
+                    println!("  DIFFERENCE, seed {}: {why}", seed + k);
+                }
+            }
+        }
+    }
+    println!("Bvh of the Rust crate, seed {seed}: {meshes} meshes, {rays} rays");
+    differed
+}
