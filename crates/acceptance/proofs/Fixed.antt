@@ -1,0 +1,45 @@
+-- Each public call's promise fixes its answer and the final content of everything lent: any two that it allows are equal. Assumes nothing.
+use Prim.Native.Nat.{ℕ}
+use native.Mathlib.Omega.{arith}
+use mathlib.Core.Path.{_≡_, refl, sym, _∙_, ap}
+use mathlib.Core.List.{List}
+use lib.Ieee.{Float}
+use Rattle.triangle.specs.declared.Hit.{Hit}
+use Rattle.triangle.specs.declared.Found.the-variants.{At, Nothing}
+use Rattle.builder.specs.declared.Built.{Built}
+use Rattle.builder.specs.Build.{Outcome, outcome}
+use Rattle.scene.specs.declared.Answer.{Answer}
+use Rattle.scene.specs.declared.Answer.the-variants.{Struck, Missed, Refused}
+use Rattle.scene.specs.Answer.{Told, none, numbered, told}
+
+-- Every public call of `order`, `aabb` and `triangle` promises `r ≡ d`, with d a definition of what it was given: two answers r and r' that
+-- the promise allows are equal.
+pub fixed : {A : Type 0} {r r' d : A} → r ≡ d → r' ≡ d → r ≡ r'
+fixed p q = p ∙ sym q
+
+-- `build`: the answer, and the index list, boxes and links at the end
+pub build-fixed : (a a' : Built) (index index' : List ℕ) (boxes boxes' : List Float) (links links' : List ℕ) (d : Outcome) → outcome a index boxes links ≡ d → outcome a' index' boxes' links' ≡ d
+    → (a ≡ a') × (index ≡ index') × (boxes ≡ boxes') × (links ≡ links')
+build-fixed a a' index index' boxes boxes' links links' d p q =
+    let e : outcome a index boxes links ≡ outcome a' index' boxes' links' = p ∙ sym q in (
+      ap (λ (o : Outcome). o .answer) e,
+      ap (λ (o : Outcome). o .index) e,
+      ap (λ (o : Outcome). o .boxes) e,
+      ap (λ (o : Outcome). o .links) e,
+    )
+
+-- `walk` writes nothing lent, and what an answer tells fixes the answer
+told-fixes : (a a' : Answer) → told a ≡ told a' → a ≡ a'
+unfolding told
+told-fixes (Struck h b c) (Struck h' b' c') p = cc (ap (λ (t : Told). t .hit) p, ap (λ (t : Told). t .boxes) p, ap (λ (t : Told). t .triangles) p)
+told-fixes (Missed b c) (Missed b' c') p = cc (ap (λ (t : Told). t .boxes) p, ap (λ (t : Told). t .triangles) p)
+told-fixes (Refused k i) (Refused k' i') p = cc (ap (λ (t : Told). t .refusal) p)
+told-fixes (Struck h b c) (Missed b' c') p = absurd (let e = ap (λ (t : Told). t .hit) p in let z : _≡_ {A = ℕ} 0 1 = cc in omega arith)
+told-fixes (Missed b c) (Struck h' b' c') p = absurd (let e = ap (λ (t : Told). t .hit) p in let z : _≡_ {A = ℕ} 0 1 = cc in omega arith)
+told-fixes (Struck h b c) (Refused k' i') p = absurd (let e = ap (λ (t : Told). t .refusal) p in let z : _≡_ {A = ℕ} 0 1 = cc in omega arith)
+told-fixes (Refused k i) (Struck h' b' c') p = absurd (let e = ap (λ (t : Told). t .refusal) p in let z : _≡_ {A = ℕ} 0 1 = cc in omega arith)
+told-fixes (Missed b c) (Refused k' i') p = absurd (let e = ap (λ (t : Told). t .refusal) p in let z : _≡_ {A = ℕ} 0 1 = cc in omega arith)
+told-fixes (Refused k i) (Missed b' c') p = absurd (let e = ap (λ (t : Told). t .refusal) p in let z : _≡_ {A = ℕ} 0 1 = cc in omega arith)
+
+pub walk-fixed : (a a' : Answer) (d : Told) → told a ≡ d → told a' ≡ d → a ≡ a'
+walk-fixed a a' d p q = told-fixes a a' (p ∙ sym q)
