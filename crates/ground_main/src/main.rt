@@ -22,6 +22,19 @@ fn main() {
     reading();
 }
 
+// ---- what is asked
+fn point(x: f64, y: f64, z: f64) -> Vec3 {
+    Vec3 { x, y, z }
+}
+
+fn cast(origin: Vec3, direction: Vec3) -> Ray {
+    Ray { origin, direction }
+}
+
+fn bounds(min: Vec3, max: Vec3) -> Aabb {
+    Aabb { min, max }
+}
+
 // ---- printing
 fn number(x: f64) {
     io::write_all(1, b" ");
@@ -94,31 +107,11 @@ fn show_box(b: Aabb) {
 
 fn boxes() {
     let nan = order::from_bits(0x7ff8_0000_0000_0000);
-    let zero = Vec3 {
-        x: 0.0,
-        y: -0.0,
-        z: 0.0,
-    };
-    let turned = Vec3 {
-        x: -0.0,
-        y: 0.0,
-        z: nan,
-    };
-    let high = Vec3 {
-        x: 1.0,
-        y: 2.0,
-        z: 1099511627776.0,
-    };
-    let beyond = Vec3 {
-        x: 1.0,
-        y: 2.0,
-        z: 1099511627776.0003,
-    };
-    let tiny = Vec3 {
-        x: 5e-324,
-        y: -5e-324,
-        z: 2.2250738585072014e-308,
-    };
+    let zero = point(0.0, -0.0, 0.0);
+    let turned = point(-0.0, 0.0, nan);
+    let high = point(1.0, 2.0, 1099511627776.0);
+    let beyond = point(1.0, 2.0, 1099511627776.0003);
+    let tiny = point(5e-324, -5e-324, 2.2250738585072014e-308);
     let e = Aabb::empty();
     show_box(e);
     show_box(e.grow(zero));
@@ -127,14 +120,8 @@ fn boxes() {
     show_box(Aabb::from_points(zero, high, tiny));
     show_box(Aabb::from_points(zero, beyond, tiny));
     show_box(e.union(Aabb::from_points(tiny, tiny, tiny)));
-    show_box(Aabb {
-        min: high,
-        max: zero,
-    });
-    show_box(Aabb {
-        min: zero,
-        max: turned,
-    });
+    show_box(bounds(high, zero));
+    show_box(bounds(zero, turned));
 }
 
 // ---- the slab test
@@ -156,172 +143,30 @@ fn slab(b: Aabb, ray: Ray) {
 fn slabs() {
     let nan = order::from_bits(0x7ff8_0000_0000_0000);
     let inf = order::infinity();
-    let low = Vec3 {
-        x: 0.0,
-        y: 0.0,
-        z: 0.0,
-    };
-    let high = Vec3 {
-        x: 1.0,
-        y: 1.0,
-        z: 1.0,
-    };
-    let unit = Aabb {
-        min: low,
-        max: high,
-    };
-    let above = Vec3 {
-        x: 0.5,
-        y: 0.5,
-        z: 2.0,
-    };
-    let down = Vec3 {
-        x: 0.0,
-        y: 0.0,
-        z: -1.0,
-    };
-    let ones = Vec3 {
-        x: 1.0,
-        y: 1.0,
-        z: 1.0,
-    };
+    let low = point(0.0, 0.0, 0.0);
+    let high = point(1.0, 1.0, 1.0);
+    let unit = bounds(low, high);
+    let above = point(0.5, 0.5, 2.0);
+    let down = point(0.0, 0.0, -1.0);
+    let ones = point(1.0, 1.0, 1.0);
     // P8: |dir| below 1e-12 is parallel, 2^-39 is not
-    slab(
-        unit,
-        Ray {
-            origin: above,
-            direction: Vec3 {
-                x: 0.0,
-                y: 0.0,
-                z: -9.094947017729282e-13,
-            },
-        },
-    );
-    slab(
-        unit,
-        Ray {
-            origin: above,
-            direction: Vec3 {
-                x: 0.0,
-                y: 0.0,
-                z: -1.8189894035458565e-12,
-            },
-        },
-    );
+    slab(unit, cast(above, point(0.0, 0.0, -9.094947017729282e-13)));
+    slab(unit, cast(above, point(0.0, 0.0, -1.8189894035458565e-12)));
     // P1: the empty box
-    slab(
-        Aabb::empty(),
-        Ray {
-            origin: above,
-            direction: ones,
-        },
-    );
-    slab(
-        Aabb::empty(),
-        Ray {
-            origin: above,
-            direction: down,
-        },
-    );
+    slab(Aabb::empty(), cast(above, ones));
+    slab(Aabb::empty(), cast(above, down));
     // -0, a subnormal, an infinite and a NaN direction
-    slab(
-        unit,
-        Ray {
-            origin: above,
-            direction: Vec3 {
-                x: -0.0,
-                y: 5e-324,
-                z: -1.0,
-            },
-        },
-    );
-    slab(
-        unit,
-        Ray {
-            origin: above,
-            direction: Vec3 {
-                x: 0.0,
-                y: 0.0,
-                z: -inf,
-            },
-        },
-    );
-    slab(
-        unit,
-        Ray {
-            origin: above,
-            direction: Vec3 {
-                x: nan,
-                y: 0.0,
-                z: -1.0,
-            },
-        },
-    );
+    slab(unit, cast(above, point(-0.0, 5e-324, -1.0)));
+    slab(unit, cast(above, point(0.0, 0.0, -inf)));
+    slab(unit, cast(above, point(nan, 0.0, -1.0)));
     // on a plane, behind, beside
-    slab(
-        unit,
-        Ray {
-            origin: high,
-            direction: down,
-        },
-    );
-    slab(
-        unit,
-        Ray {
-            origin: above,
-            direction: ones,
-        },
-    );
-    slab(
-        unit,
-        Ray {
-            origin: Vec3 {
-                x: 2.0,
-                y: 0.5,
-                z: 2.0,
-            },
-            direction: down,
-        },
-    );
+    slab(unit, cast(high, down));
+    slab(unit, cast(above, ones));
+    slab(unit, cast(point(2.0, 0.5, 2.0), down));
     // a box with a NaN, one without end, and one whose sides are exchanged
-    slab(
-        Aabb {
-            min: Vec3 {
-                x: nan,
-                y: 0.0,
-                z: 0.0,
-            },
-            max: high,
-        },
-        Ray {
-            origin: above,
-            direction: down,
-        },
-    );
-    slab(
-        Aabb {
-            min: Vec3 {
-                x: -inf,
-                y: -inf,
-                z: -inf,
-            },
-            max: high,
-        },
-        Ray {
-            origin: low,
-            direction: ones,
-        },
-    );
-    slab(
-        Aabb {
-            min: high,
-            max: low,
-        },
-        Ray {
-            origin: above,
-            direction: down,
-        },
-    );
+    slab(bounds(point(nan, 0.0, 0.0), high), cast(above, down));
+    slab(bounds(point(-inf, -inf, -inf), high), cast(low, ones));
+    slab(bounds(high, low), cast(above, down));
 }
 
 // ---- triangles
@@ -345,140 +190,24 @@ fn meet(a: Triangle, ray: Ray, k: u32) {
 
 fn triangles() {
     let nan = order::from_bits(0x7ff8_0000_0000_0000);
-    let v0 = Vec3 {
-        x: 0.0,
-        y: 0.0,
-        z: 0.0,
-    };
-    let v1 = Vec3 {
-        x: 1.0,
-        y: 0.0,
-        z: 0.0,
-    };
-    let v2 = Vec3 {
-        x: 0.0,
-        y: 1.0,
-        z: 0.0,
-    };
-    let normal = Vec3 {
-        x: 0.0,
-        y: 0.0,
-        z: 1.0,
-    };
+    let v0 = point(0.0, 0.0, 0.0);
+    let v1 = point(1.0, 0.0, 0.0);
+    let v2 = point(0.0, 1.0, 0.0);
+    let normal = point(0.0, 0.0, 1.0);
     let a = Triangle { v0, v1, v2, normal };
-    let down = Vec3 {
-        x: 0.0,
-        y: 0.0,
-        z: -1.0,
-    };
-    let up = Vec3 {
-        x: 0.0,
-        y: 0.0,
-        z: 1.0,
-    };
+    let down = point(0.0, 0.0, -1.0);
+    let up = point(0.0, 0.0, 1.0);
     // P2 to P7
-    meet(
-        a,
-        Ray {
-            origin: Vec3 {
-                x: 0.25,
-                y: 0.25,
-                z: 1.0,
-            },
-            direction: down,
-        },
-        2,
-    );
-    meet(
-        a,
-        Ray {
-            origin: Vec3 {
-                x: 0.25,
-                y: 0.25,
-                z: -1.0,
-            },
-            direction: up,
-        },
-        3,
-    );
-    meet(
-        a,
-        Ray {
-            origin: Vec3 {
-                x: 0.75,
-                y: 0.75,
-                z: 1.0,
-            },
-            direction: down,
-        },
-        4,
-    );
-    meet(
-        a,
-        Ray {
-            origin: Vec3 {
-                x: 2.0,
-                y: 0.25,
-                z: 1.0,
-            },
-            direction: down,
-        },
-        5,
-    );
-    meet(
-        a,
-        Ray {
-            origin: Vec3 {
-                x: 0.5,
-                y: 0.5,
-                z: 1.0,
-            },
-            direction: down,
-        },
-        6,
-    );
-    meet(
-        a,
-        Ray {
-            origin: Vec3 {
-                x: 0.25,
-                y: 0.25,
-                z: 9.5367431640625e-7,
-            },
-            direction: down,
-        },
-        7,
-    );
-    meet(
-        a,
-        Ray {
-            origin: Vec3 {
-                x: 0.25,
-                y: 0.25,
-                z: 1.9073486328125e-6,
-            },
-            direction: down,
-        },
-        7,
-    );
+    meet(a, cast(point(0.25, 0.25, 1.0), down), 2);
+    meet(a, cast(point(0.25, 0.25, -1.0), up), 3);
+    meet(a, cast(point(0.75, 0.75, 1.0), down), 4);
+    meet(a, cast(point(2.0, 0.25, 1.0), down), 5);
+    meet(a, cast(point(0.5, 0.5, 1.0), down), 6);
+    meet(a, cast(point(0.25, 0.25, 9.5367431640625e-7), down), 7);
+    meet(a, cast(point(0.25, 0.25, 1.9073486328125e-6), down), 7);
     // a NaN u misses, a NaN v passes
-    meet(
-        a,
-        Ray {
-            origin: Vec3 {
-                x: nan,
-                y: 0.25,
-                z: 1.0,
-            },
-            direction: down,
-        },
-        8,
-    );
-    let far = Vec3 {
-        x: 0.0,
-        y: 1e200,
-        z: 1e200,
-    };
+    meet(a, cast(point(nan, 0.25, 1.0), down), 8);
+    let far = point(0.0, 1e200, 1e200);
     meet(
         Triangle {
             v0,
@@ -486,14 +215,7 @@ fn triangles() {
             v2: v1,
             normal,
         },
-        Ray {
-            origin: Vec3 {
-                x: 0.0,
-                y: 1e150,
-                z: 1e150,
-            },
-            direction: down,
-        },
+        cast(point(0.0, 1e150, 1e150), down),
         9,
     );
     // direction·normal = 0 is no front; a zero direction; a triangle without area; one that is not admitted
@@ -504,28 +226,10 @@ fn triangles() {
             v2,
             normal: v0,
         },
-        Ray {
-            origin: Vec3 {
-                x: 0.25,
-                y: 0.25,
-                z: 1.0,
-            },
-            direction: down,
-        },
+        cast(point(0.25, 0.25, 1.0), down),
         10,
     );
-    meet(
-        a,
-        Ray {
-            origin: Vec3 {
-                x: 0.25,
-                y: 0.25,
-                z: 1.0,
-            },
-            direction: v0,
-        },
-        11,
-    );
+    meet(a, cast(point(0.25, 0.25, 1.0), v0), 11);
     meet(
         Triangle {
             v0,
@@ -533,14 +237,7 @@ fn triangles() {
             v2: v1,
             normal,
         },
-        Ray {
-            origin: Vec3 {
-                x: 0.25,
-                y: 0.25,
-                z: 1.0,
-            },
-            direction: down,
-        },
+        cast(point(0.25, 0.25, 1.0), down),
         12,
     );
     meet(
@@ -548,20 +245,9 @@ fn triangles() {
             v0,
             v1,
             v2,
-            normal: Vec3 {
-                x: 0.0,
-                y: 0.0,
-                z: 2.0000000000000004,
-            },
+            normal: point(0.0, 0.0, 2.0000000000000004),
         },
-        Ray {
-            origin: Vec3 {
-                x: 0.25,
-                y: 0.25,
-                z: 1.0,
-            },
-            direction: down,
-        },
+        cast(point(0.25, 0.25, 1.0), down),
         13,
     );
     io::write_all(1, b"centroid");
