@@ -25,47 +25,47 @@ use Rattle.builder.specs.Bins.{whole, noBin, blank, joinBins, filled, su
 use Rattle.builder.specs.Choice.{weight, costOf, betterOf, sweepFrom, tryAxis, leafCost, chosen, bestSplit}
 
 -- ---- the sweep
-module _ (axis : ℕ) (lo scale parent : Float) where
-  sweep-cons : (best : Best) (l b : Bin) (bs : List Bin) (i : ℕ) → 0 < length bs → sweepFrom axis lo scale parent best l (b ∷ bs) i ≡ sweepFrom axis lo scale parent (betterOf best (joinBins l b) (suffixOf bs) (i + 1) axis lo scale parent) (joinBins l b) bs (i + 1)
+module _ (axis : ℕ) (lo width parent : Float) where
+  sweep-cons : (best : Best) (l b : Bin) (bs : List Bin) (i : ℕ) → 0 < length bs → sweepFrom axis lo width parent best l (b ∷ bs) i ≡ sweepFrom axis lo width parent (betterOf best (joinBins l b) (suffixOf bs) (i + 1) axis lo width parent) (joinBins l b) bs (i + 1)
   unfolding sweepFrom
   sweep-cons best l b [] i h = absurd (omega arith)
   sweep-cons best l b (x ∷ bs) i h = refl
 
-  sweep-one : (best : Best) (l : Bin) (bs : List Bin) (i : ℕ) → length bs ≡ 1 → sweepFrom axis lo scale parent best l bs i ≡ best
+  sweep-one : (best : Best) (l : Bin) (bs : List Bin) (i : ℕ) → length bs ≡ 1 → sweepFrom axis lo width parent best l bs i ≡ best
   unfolding sweepFrom
   sweep-one best l [] i h = refl
   sweep-one best l (b ∷ []) i h = refl
   sweep-one best l (b ∷ x ∷ bs) i h = absurd (omega arith)
 
-  pub sweep-end : (best : Best) (l : Bin) (bs : List Bin) (i : ℕ) → length bs ≡ 16 → i ≤ 15 → 15 ≤ i → sweepFrom axis lo scale parent best l (drop i bs) i ≡ best
+  pub sweep-end : (best : Best) (l : Bin) (bs : List Bin) (i : ℕ) → length bs ≡ 16 → i ≤ 15 → 15 ≤ i → sweepFrom axis lo width parent best l (drop i bs) i ≡ best
   sweep-end best l bs i h p q = sweep-one best l (drop i bs) i (omega (arith, length-drop i bs))
 
   pub sweep-next : (best best′ : Best) (l l′ r : Bin) (bs : List Bin) (i : ℕ) (n : Best) → length bs ≡ 16 → i < 15 → l′ ≡ joinBins l (getD bs i blank) → r ≡ suffixOf (drop (i + 1) bs)
-      → best′ ≡ betterOf best l′ r (i + 1) axis lo scale parent → sweepFrom axis lo scale parent best l (drop i bs) i ≡ n → sweepFrom axis lo scale parent best′ l′ (drop (i + 1) bs) (i + 1) ≡ n
+      → best′ ≡ betterOf best l′ r (i + 1) axis lo width parent → sweepFrom axis lo width parent best l (drop i bs) i ≡ n → sweepFrom axis lo width parent best′ l′ (drop (i + 1) bs) (i + 1) ≡ n
   sweep-next best best′ l l′ r bs i n h k p q e s =
-      let b1 : best′ ≡ betterOf best (joinBins l (getD bs i blank)) (suffixOf (drop (i + 1) bs)) (i + 1) axis lo scale parent = cc in
-      ap (λ (z : Best). sweepFrom axis lo scale parent z l′ (drop (i + 1) bs) (i + 1)) b1
-      ∙ ap (λ (z : Bin). sweepFrom axis lo scale parent (betterOf best (joinBins l (getD bs i blank)) (suffixOf (drop (i + 1) bs)) (i + 1) axis lo scale parent) z (drop (i + 1) bs) (i + 1)) p
+      let b1 : best′ ≡ betterOf best (joinBins l (getD bs i blank)) (suffixOf (drop (i + 1) bs)) (i + 1) axis lo width parent = cc in
+      ap (λ (z : Best). sweepFrom axis lo width parent z l′ (drop (i + 1) bs) (i + 1)) b1
+      ∙ ap (λ (z : Bin). sweepFrom axis lo width parent (betterOf best (joinBins l (getD bs i blank)) (suffixOf (drop (i + 1) bs)) (i + 1) axis lo width parent) z (drop (i + 1) bs) (i + 1)) p
       ∙ sym (sweep-cons best l (getD bs i blank) (drop (i + 1) bs) i (omega (arith, length-drop (i + 1) bs)))
-      ∙ ap (λ (z : List Bin). sweepFrom axis lo scale parent best l z i) (sym (drop-cons bs i blank (omega arith) ∙ ap (λ (k : ℕ). getD bs i blank ∷ drop k bs) (sym (add-one i))))
+      ∙ ap (λ (z : List Bin). sweepFrom axis lo width parent best l z i) (sym (drop-cons bs i blank (omega arith) ∙ ap (λ (k : ℕ). getD bs i blank ∷ drop k bs) (sym (add-one i))))
       ∙ s
 
 -- ---- the better of two
-module _ (best : Best) (l r : Bin) (i axis : ℕ) (lo scale parent : Float) where
-  pub better-1 : l .count ≡ 0 → best ≡ betterOf best l r i axis lo scale parent
+module _ (best : Best) (l r : Bin) (i axis : ℕ) (lo width parent : Float) where
+  pub better-1 : l .count ≡ 0 → best ≡ betterOf best l r i axis lo width parent
   unfolding betterOf
   better-1 p = rw (eq-eqb (l .count) 0 p)
 
-  pub better-2 : (l .count ≡ 0 → ⊥) → r .count ≡ 0 → best ≡ betterOf best l r i axis lo scale parent
+  pub better-2 : (l .count ≡ 0 → ⊥) → r .count ≡ 0 → best ≡ betterOf best l r i axis lo width parent
   unfolding betterOf
   better-2 p q = rw (ne-eqb (l .count) 0 p, eq-eqb (r .count) 0 q)
 
   pub better-3 : (x : Float) → (l .count ≡ 0 → ⊥) → (r .count ≡ 0 → ⊥) → x ≡ costOf l r parent → lt x (best .cost) ≡ true
-      → _≡_ {A = Best} (record { cost = x; axis = axis; position = add binary64 lo (mul binary64 (whole i) (div binary64 one scale)) }) (betterOf best l r i axis lo scale parent)
+      → _≡_ {A = Best} (record { cost = x; axis = axis; position = add binary64 lo (mul binary64 (whole i) width) }) (betterOf best l r i axis lo width parent)
   unfolding betterOf
   better-3 x p q e t = rw (ne-eqb (l .count) 0 p, ne-eqb (r .count) 0 q, ← e, t)
 
-  pub better-4 : (x : Float) → (l .count ≡ 0 → ⊥) → (r .count ≡ 0 → ⊥) → x ≡ costOf l r parent → lt x (best .cost) ≡ false → best ≡ betterOf best l r i axis lo scale parent
+  pub better-4 : (x : Float) → (l .count ≡ 0 → ⊥) → (r .count ≡ 0 → ⊥) → x ≡ costOf l r parent → lt x (best .cost) ≡ false → best ≡ betterOf best l r i axis lo width parent
   unfolding betterOf
   better-4 x p q e t = rw (ne-eqb (l .count) 0 p, ne-eqb (r .count) 0 q, ← e, t)
 
@@ -80,9 +80,9 @@ module _ (m : List Float) (ids : List ℕ) (q : Aabb) (axis : ℕ) (parent : Flo
   try-skip t = rw (← el, ← eh, t)
 
   pub try-go : (bins : List Bin) (r : Best) → lt (sub binary64 hi lo) millionth ≡ false → bins ≡ filled m axis lo (div binary64 (whole 16) (sub binary64 hi lo)) (replicate 16 noBin) ids
-      → r ≡ sweepFrom axis lo (div binary64 (whole 16) (sub binary64 hi lo)) parent best noBin bins 0 → r ≡ tryAxis m ids q axis parent best
+      → r ≡ sweepFrom axis lo (div binary64 one (div binary64 (whole 16) (sub binary64 hi lo))) parent best noBin bins 0 → r ≡ tryAxis m ids q axis parent best
   unfolding tryAxis
-  try-go bins r t e f = f ∙ ap (λ (z : List Bin). sweepFrom axis lo (div binary64 (whole 16) (sub binary64 hi lo)) parent best noBin z 0) e ∙ rw (← el, ← eh, t, sixteen-is)
+  try-go bins r t e f = f ∙ ap (λ (z : List Bin). sweepFrom axis lo (div binary64 one (div binary64 (whole 16) (sub binary64 hi lo))) parent best noBin z 0) e ∙ rw (← el, ← eh, t, sixteen-is)
 
 -- ---- the choice
 module _ (m : List Float) (ids : List ℕ) (b q : Aabb) where

@@ -23,21 +23,21 @@ weight b = mul binary64 (mul binary64 (area (b .bounds)) (whole (b .count))) one
 unfoldable pub costOf : Bin → Bin → Float → Float
 costOf l r parent = add binary64 one (div binary64 (add binary64 (weight l) (weight r)) parent)
 
--- For a boundary with both sides occupied, only a strictly smaller cost replaces the best. Position: min + (i+1)·(1/scale), of the boundary after i+1 bins
+-- For a boundary with both sides occupied, only a strictly smaller cost replaces the best. Position: min + (i+1)·(1/scale), where i+1 bins are to the left
 unfoldable pub betterOf : Best → Bin → Bin → ℕ → ℕ → Float → Float → Float → Best
-betterOf best l r bins axis min scale parent =
+betterOf best l r bins axis min width parent =
     cond (eqb (l .count) 0) best
     (cond (eqb (r .count) 0) best
     (cond (lt (costOf l r parent) (best .cost))
-    (record { cost = costOf l r parent; axis = axis; position = add binary64 min (mul binary64 (whole bins) (div binary64 one scale)) })
+    (record { cost = costOf l r parent; axis = axis; position = add binary64 min (mul binary64 (whole bins) width) })
     best))
 
 -- For each boundary i in 0..14: from i on, with what is to the left joined
 unfoldable pub sweepFrom : ℕ → Float → Float → Float → Best → Bin → List Bin → ℕ → Best
-sweepFrom axis min scale parent best l [] i = best
-sweepFrom axis min scale parent best l (b ∷ []) i = best
-sweepFrom axis min scale parent best l (b ∷ c ∷ bs) i =
-    sweepFrom axis min scale parent (betterOf best (joinBins l b) (suffixOf (c ∷ bs)) (i + 1) axis min scale parent) (joinBins l b) (c ∷ bs) (i + 1)
+sweepFrom axis min width parent best l [] i = best
+sweepFrom axis min width parent best l (b ∷ []) i = best
+sweepFrom axis min width parent best l (b ∷ c ∷ bs) i =
+    sweepFrom axis min width parent (betterOf best (joinBins l b) (suffixOf (c ∷ bs)) (i + 1) axis min width parent) (joinBins l b) (c ∷ bs) (i + 1)
 
 -- an axis is skipped if its centroid span is < 1e-6; scale is 16/span
 unfoldable pub tryAxis : List Float → List ℕ → Aabb → ℕ → Float → Best → Best
@@ -45,7 +45,7 @@ tryAxis mesh range centroids axis parent best =
     let min = along axis (centroids .min) in
     let span = sub binary64 (along axis (centroids .max)) min in
     let scale = div binary64 sixteen span in
-    cond (lt span millionth) best (sweepFrom axis min scale parent best noBin (filled mesh axis min scale (replicate 16 noBin) range) 0)
+    cond (lt span millionth) best (sweepFrom axis min (div binary64 one scale) parent best noBin (filled mesh axis min scale (replicate 16 noBin) range) 0)
 
 -- the best starts at count·1.5
 unfoldable pub leafCost : List ℕ → Float

@@ -35,7 +35,7 @@ pub fn cost(l: Bin, r: Bin, parent: f64) -> f64
         + (al * nl * Aabb::SAH_INTERSECTION_COST + ar * nr * Aabb::SAH_INTERSECTION_COST) / parent
 }
 
-// The boundary after `i` bins against the best so far.
+// The boundary with `i` bins to its left, each `width` wide, against the best so far.
 pub fn better(
     best: Best,
     l: Bin,
@@ -43,10 +43,10 @@ pub fn better(
     i: u8,
     axis: usize,
     min: f64,
-    scale: f64,
+    width: f64,
     parent: f64,
 ) -> Best
-    ensures { λ b. ⌜ b ≡ betterOf best l r i axis min scale parent ⌝ }
+    ensures { λ b. ⌜ b ≡ betterOf best l r i axis min width parent ⌝ }
 {
     if l.count == 0 {
         return best;
@@ -59,16 +59,16 @@ pub fn better(
         return Best {
             cost,
             axis,
-            position: min + (i as f64) * (1.0 / scale),
+            position: min + (i as f64) * width,
         };
     }
     best
 }
 
 // The fifteen boundaries of an axis, from left to right.
-pub fn sweep(b: Bins, best: Best, axis: usize, min: f64, scale: f64, parent: f64) -> Best
+pub fn sweep(b: Bins, best: Best, axis: usize, min: f64, width: f64, parent: f64) -> Best
     requires { ⌜ AtMost most-triangles (b .bin) × (length (b .bin) ≡ 16) ⌝ }
-    ensures { λ r. ⌜ r ≡ sweepFrom axis min scale parent best noBin (b .bin) 0 ⌝ }
+    ensures { λ r. ⌜ r ≡ sweepFrom axis min width parent best noBin (b .bin) 0 ⌝ }
 {
     let right = bins::suffixes(b);
     let bin = b.bin;
@@ -81,7 +81,7 @@ pub fn sweep(b: Bins, best: Best, axis: usize, min: f64, scale: f64, parent: f64
         left = left.joined(here);
         i += 1;
         let r = sides[i as usize];
-        most = better(most, left, r, i, axis, min, scale, parent);
+        most = better(most, left, r, i, axis, min, width, parent);
     }
     most
 }
@@ -104,8 +104,9 @@ pub fn try_axis(
         return best;
     }
     let scale = (Aabb::SAH_BINS as f64) / span;
+    let width = 1.0 / scale;
     let bins = bins::fill(triangles, index, axis, min, scale);
-    sweep(bins, best, axis, min, scale, parent)
+    sweep(bins, best, axis, min, width, parent)
 }
 
 // The best split of the range whose boxes are given, or none.

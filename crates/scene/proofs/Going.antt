@@ -15,7 +15,7 @@ use Rattle.scene.specs.Answer.{Told}
 use Rattle.scene.specs.Walk.{start, visit, refused, over, onward, run}
 use Rattle.scene.specs.State.{top, pending, Ready}
 use Rattle.scene.proofs.Listed.{taken, length-top}
-use Rattle.scene.proofs.Bounded.{Counted, Opens, Leaves, visited}
+use Rattle.scene.proofs.Kept.{Counted, Opens, Leaves, visited}
 
 -- each number is below n
 abbrev pub Each : ℕ → List ℕ → Type 0
@@ -31,7 +31,7 @@ pub record Going (s : Lent) (r : Ray) (n : ℕ) (p : Pending) (a : Tally) : Type
   pub counted : a .triangles ≤ a .boxes * 2 ^ 32
   pub same : run s r (n - a .boxes) (pending p) a ≡ run s r n (0 ∷ []) start
 
-none-pending : (s : Lent) (r : Ray) (left : ℕ) (a : Tally) → run s r left [] a ≡ over (s .triangles) r a
+pub none-pending : (s : Lent) (r : Ray) (left : ℕ) (a : Tally) → run s r left [] a ≡ over (s .triangles) r a
 unfolding run
 none-pending s r zero a = refl
 none-pending s r (suc left) a = refl
@@ -40,7 +40,7 @@ none-left : (s : Lent) (r : Ray) (left i : ℕ) (rest : List ℕ) (a : Tally) �
 unfolding run
 none-left s r left i rest a e = rw e
 
-one-left : (s : Lent) (r : Ray) (left more i : ℕ) (rest : List ℕ) (a : Tally) → left ≡ suc more → run s r left (i ∷ rest) a ≡ onward (visit s r i (length rest) a) rest (run s r more)
+pub one-left : (s : Lent) (r : Ray) (left more i : ℕ) (rest : List ℕ) (a : Tally) → left ≡ suc more → run s r left (i ∷ rest) a ≡ onward (visit s r i (length rest) a) rest (run s r more)
 unfolding run
 one-left s r left more i rest a e = rw e
 

@@ -1,6 +1,8 @@
 pub mod Listed
 pub mod Entries
 pub mod Judged
-pub mod Bounded
+pub mod Kept
 pub mod Going
 pub mod Entrance
+pub mod Accepting
+pub mod NearestHit

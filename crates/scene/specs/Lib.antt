@@ -2,3 +2,5 @@ pub mod Lent
 pub mod Answer
 pub mod Walk
 pub mod State
+pub mod Tree
+pub mod NearestHit

@@ -15,10 +15,10 @@ use Rattle.builder.proofs.split.sweep.Statement.{statement}
 use Rattle.builder.proofs.split.sweep.Tie as tie
 
 abbrev Inv-loop : tie.InvT-loop
-Inv-loop axis lo scale parent bin sides left₀ most₀ i₀ left most i = (i ≤ 15) × (left .count ≤ i * most-triangles) × (sweepFrom axis lo scale parent most left (drop i bin) i ≡ sweepFrom axis lo scale parent most₀ noBin bin 0) × AtMost most-triangles bin × (length bin ≡ 16) × ((j : ℕ) → j < 16 → getD sides j blank ≡ suffixOf (drop j bin))
+Inv-loop axis lo width parent bin sides left₀ most₀ i₀ left most i = (i ≤ 15) × (left .count ≤ i * most-triangles) × (sweepFrom axis lo width parent most left (drop i bin) i ≡ sweepFrom axis lo width parent most₀ noBin bin 0) × AtMost most-triangles bin × (length bin ≡ 16) × ((j : ℕ) → j < 16 → getD sides j blank ≡ suffixOf (drop j bin))
 
 abbrev μ-loop : tie.MeasureT-loop
-μ-loop axis lo scale parent bin sides left₀ most₀ i₀ left most i = 15 - i
+μ-loop axis lo width parent bin sides left₀ most₀ i₀ left most i = 15 - i
 
 suffixes-requires : tie.Need-suffixes-requires Inv-loop μ-loop
 suffixes-requires c κs = search needs
@@ -27,7 +27,7 @@ none-requires : tie.Need-none-requires Inv-loop μ-loop
 none-requires c κs = search needs
 
 loop-holds : tie.Need-loop-holds Inv-loop μ-loop
-loop-holds c = (search needs, omega (arith, none-count (c .none .result) (c .none .ensures)), ap (λ (z : Bin). sweepFrom (c .before .before .before .before .args .axis) (c .before .before .before .before .args .min) (c .before .before .before .before .args .scale) (c .before .before .before .before .args .parent) (c .before .before .before .before .args .best) z (c .before .before .before .before .args .b .bin) 0) (c .none .ensures), c .before .before .before .before .pre .0, c .before .before .before .before .pre .1, c .before .before .before .suffixes .ensures)
+loop-holds c = (search needs, omega (arith, none-count (c .none .result) (c .none .ensures)), ap (λ (z : Bin). sweepFrom (c .before .before .before .before .args .axis) (c .before .before .before .before .args .min) (c .before .before .before .before .args .width) (c .before .before .before .before .args .parent) (c .before .before .before .before .args .best) z (c .before .before .before .before .args .b .bin) 0) (c .none .ensures), c .before .before .before .before .pre .0, c .before .before .before .before .pre .1, c .before .before .before .suffixes .ensures)
 
 cast-here : tie.Need-cast-here Inv-loop μ-loop
 cast-here c = search needs
@@ -60,10 +60,10 @@ loop-less : tie.Need-loop-less Inv-loop μ-loop
 loop-less c = omega (arith, c .before .before .before .before .loop-test .taken)
 
 loop-again : tie.Need-loop-again Inv-loop μ-loop
-loop-again c = (omega (arith, c .before .before .before .before .loop-test .taken), omega (arith, c .before .before .before .before .before .loop .inv .1, c .before .before .before .before .before .loop .inv .3 (c .before .before .before .before .before .loop .i), join-count (c .before .before .before .before .before .loop .left) _ (c .before .before .joined .result) (c .before .before .joined .ensures)), sweep-next (c .before .before .before .before .before .before .before .before .before .before .args .axis) (c .before .before .before .before .before .before .before .before .before .before .args .min) (c .before .before .before .before .before .before .before .before .before .before .args .scale) (c .before .before .before .before .before .before .before .before .before .before .args .parent) (c .before .before .before .before .before .loop .most) (c .better .result) (c .before .before .before .before .before .loop .left) (c .before .before .joined .result) _ _ (c .before .before .before .before .before .loop .i) _ (c .before .before .before .before .before .loop .inv .4) (c .before .before .before .before .loop-test .taken) (c .before .before .joined .ensures) (c .before .before .before .before .before .loop .inv .5 (c .before .before .before .before .before .loop .i + 1) (omega (arith, c .before .before .before .before .loop-test .taken))) (c .better .ensures) (c .before .before .before .before .before .loop .inv .2), c .before .before .before .before .before .loop .inv .3, c .before .before .before .before .before .loop .inv .4, c .before .before .before .before .before .loop .inv .5)
+loop-again c = (omega (arith, c .before .before .before .before .loop-test .taken), omega (arith, c .before .before .before .before .before .loop .inv .1, c .before .before .before .before .before .loop .inv .3 (c .before .before .before .before .before .loop .i), join-count (c .before .before .before .before .before .loop .left) _ (c .before .before .joined .result) (c .before .before .joined .ensures)), sweep-next (c .before .before .before .before .before .before .before .before .before .before .args .axis) (c .before .before .before .before .before .before .before .before .before .before .args .min) (c .before .before .before .before .before .before .before .before .before .before .args .width) (c .before .before .before .before .before .before .before .before .before .before .args .parent) (c .before .before .before .before .before .loop .most) (c .better .result) (c .before .before .before .before .before .loop .left) (c .before .before .joined .result) _ _ (c .before .before .before .before .before .loop .i) _ (c .before .before .before .before .before .loop .inv .4) (c .before .before .before .before .loop-test .taken) (c .before .before .joined .ensures) (c .before .before .before .before .before .loop .inv .5 (c .before .before .before .before .before .loop .i + 1) (omega (arith, c .before .before .before .before .loop-test .taken))) (c .better .ensures) (c .before .before .before .before .before .loop .inv .2), c .before .before .before .before .before .loop .inv .3, c .before .before .before .before .before .loop .inv .4, c .before .before .before .before .before .loop .inv .5)
 
 returns : tie.Need-returns Inv-loop μ-loop
-returns c = sym (sweep-end (c .before .before .before .before .before .before .args .axis) (c .before .before .before .before .before .before .args .min) (c .before .before .before .before .before .before .args .scale) (c .before .before .before .before .before .before .args .parent) (c .before .loop .most) (c .before .loop .left) (c .before .before .before .before .before .before .args .b .bin) (c .before .loop .i) (c .before .loop .inv .4) (c .before .loop .inv .0) (c .loop-test .left)) ∙ c .before .loop .inv .2
+returns c = sym (sweep-end (c .before .before .before .before .before .before .args .axis) (c .before .before .before .before .before .before .args .min) (c .before .before .before .before .before .before .args .width) (c .before .before .before .before .before .before .args .parent) (c .before .loop .most) (c .before .loop .left) (c .before .before .before .before .before .before .args .b .bin) (c .before .loop .i) (c .before .loop .inv .4) (c .before .loop .inv .0) (c .loop-test .left)) ∙ c .before .loop .inv .2
 
 pub sweep-spec : {M : Type 1} → statement M
 sweep-spec =

@@ -1,0 +1,12 @@
+-- The array is the definition's list. Assumes nothing.
+use mathlib.Core.Path.{refl, sym, ap, _∙_}
+use Rattle.export.specs.Report.{hitNumbers}
+use Rattle.export.proofs.hit_numbers.Statement.{statement}
+use Rattle.export.proofs.hit_numbers.Tie as tie
+
+returns : tie.Need-returns
+unfolding hitNumbers
+returns c = refl
+
+pub hit-numbers-spec : {M : Type 1} → statement M
+hit-numbers-spec = tie.close (tie.spec returns)
