@@ -1,3 +1,4 @@
 pub mod Same
 pub mod Probes
 pub mod Fixed
+pub mod Bridge

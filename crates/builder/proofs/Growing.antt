@@ -35,7 +35,7 @@ ordered-length m a xs = sorted-length (ahead (centroidAt m a)) (linear-ahead (ce
 
 -- ---- parts of a range
 -- ---- the split
-test : Parted → Bool
+pub test : Parted → Bool
 test s = eqb (s .at) 0 || eqb (s .at) (length (s .ids))
 
 pub split-even : (m : List Float) (a : ℕ) (p : Float) (ids xs o : List ℕ) (l : ℕ) → parts xs l ≡ parted m a p ids → (eqb l 0 || eqb l (length xs)) ≡ true
@@ -61,7 +61,7 @@ cond-by : (P : Parted → Type 0) (t : Bool) (x y : Parted) → (t ≡ true → 
 cond-by P true x y p q = p refl
 cond-by P false x y p q = q refl
 
-settled-by : (P : Parted → Type 0) (m : List Float) (a : ℕ) (s : Parted) → P (parts (ordered m a (s .ids)) (length (s .ids) / 2)) → (test s ≡ false → P s) → P (settled m a s)
+pub settled-by : (P : Parted → Type 0) (m : List Float) (a : ℕ) (s : Parted) → P (parts (ordered m a (s .ids)) (length (s .ids) / 2)) → (test s ≡ false → P s) → P (settled m a s)
 unfolding settled test
 settled-by P m a s p q = cond-by P (eqb (s .at) 0 || eqb (s .at) (length (s .ids))) (parts (ordered m a (s .ids)) (length (s .ids) / 2)) s (λ _. p) q
 
@@ -111,12 +111,12 @@ grow-fork m d f ids a p e = rw (e, grow)
 pub splits-four : (m : List Float) (ids : List ℕ) (b q : Aabb) (a : ℕ) (p : Float) → bestSplit m ids b q ≡ Split a p → 4 < length ids
 splits-four m ids b q a p e = let n : (length ids ≤ 4 → ⊥) = not-few m ids b q a p e in omega arith
 
-decides-four : (m : List Float) (ids : List ℕ) (a : ℕ) (p : Float) → decision m ids ≡ Split a p → 4 < length ids
+pub decides-four : (m : List Float) (ids : List ℕ) (a : ℕ) (p : Float) → decision m ids ≡ Split a p → 4 < length ids
 unfolding decision
 decides-four m ids a p e = splits-four m ids (nodeBox m ids) (centroidBox m ids) a p e
 
 -- ---- how many nodes a tree has
-Small : ℕ → Option Grown → Type 0
+pub Small : ℕ → Option Grown → Type 0
 Small n none = ℕ
 Small n (some g) = below (g .tree) ≤ 2 * (n - 1)
 
@@ -147,7 +147,7 @@ fork-small m d f ids (Split a p) e ih =
     (subst (λ (n : ℕ). Small n (grow m d f (take (separated m a p ids .at) (separated m a p ids .ids)))) (length-take-le (separated m a p ids .at) (separated m a p ids .ids) (omega arith)) (ih f (take (separated m a p ids .at) (separated m a p ids .ids))))
     (subst (λ (n : ℕ). Small n (grow m d (f + separated m a p ids .at) (drop (separated m a p ids .at) (separated m a p ids .ids)))) (length-drop (separated m a p ids .at) (separated m a p ids .ids) ∙ ap (λ (n : ℕ). n - separated m a p ids .at) len) (ih (f + separated m a p ids .at) (drop (separated m a p ids .at) (separated m a p ids .ids)))))
 
-small-grow : (m : List Float) (d f : ℕ) (ids : List ℕ) → Small (length ids) (grow m d f ids)
+pub small-grow : (m : List Float) (d f : ℕ) (ids : List ℕ) → Small (length ids) (grow m d f ids)
 small-grow m zero f ids = deep-small m f ids (decision m ids) refl
 small-grow m (suc d) f ids = fork-small m d f ids (decision m ids) refl (λ g xs. small-grow m d g xs)
 

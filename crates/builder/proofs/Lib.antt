@@ -9,3 +9,5 @@ pub mod Growing
 pub mod Fills
 pub mod Whole
 pub mod Rest
+pub mod Enclosing
+pub mod Placing

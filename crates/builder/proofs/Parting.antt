@@ -21,7 +21,7 @@ pick-by : {A : Type 0} (P : A → Type 0) (t : Bool) (x y : A) → P x → P y �
 pick-by P true x y p q = p
 pick-by P false x y p q = q
 
-moves-by : (P : Parted → Type 0) (keep : ℕ → Bool) (k l : ℕ) (xs : List ℕ) → P (moves keep k (suc l) xs) → P (moves keep k l (swapped xs l (l + k))) → P (moves keep (suc k) l xs)
+pub moves-by : (P : Parted → Type 0) (keep : ℕ → Bool) (k l : ℕ) (xs : List ℕ) → P (moves keep k (suc l) xs) → P (moves keep k l (swapped xs l (l + k))) → P (moves keep (suc k) l xs)
 unfolding moves
 moves-by P keep k l xs p q = pick-by P (keep (getD xs l 0)) (moves keep k (suc l) xs) (moves keep k l (swapped xs l (l + k))) p q
 

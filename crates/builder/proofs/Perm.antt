@@ -20,7 +20,7 @@ pub hit-same : (v : ℕ) → hit v v ≡ 1
 unfolding hit
 hit-same v = rw (eq-eqb v v refl)
 
-hit-cases : (v x : ℕ) → (v ≡ x) ⊎ (hit v x ≡ 0)
+pub hit-cases : (v x : ℕ) → (v ≡ x) ⊎ (hit v x ≡ 0)
 unfolding hit
 hit-cases v x = go (eqb v x) refl
   where

@@ -1,0 +1,384 @@
+-- A tree laid out is held by the lists, each node at its number, and every node but the root is the child of exactly one. Assumes nothing.
+use mathlib.Core.Path.{_≡_, refl, _∙_, ap, subst⁻¹}
+use Prim.Native.Nat.{ℕ, _+_, _*_, _/_, _≤_, _<_}
+use native.Mathlib.Omega.{arith}
+use native.Mathlib.Decide.{decLt}
+use mathlib.Core.Logic.{_⊎_, inl, inr, ⊎-elim}
+use mathlib.Core.List.{List}
+use lib.ListN.{length, getD, set, length-set}
+use lib.Seq.{getD-set-same, getD-set-other}
+use lib.Ieee.{Float, nan}
+use Rattle.aabb.proofs.Inside.{inside}
+use Rattle.aabb.specs.Bounds.{boxAt}
+use Rattle.aabb.specs.Vector.{vectorAt}
+use Rattle.aabb.specs.declared.bounds.Aabb.{Aabb}
+use Rattle.builder.specs.Heap.{parent}
+use Rattle.builder.specs.Layout.{boxPut, boxesOf, linkPut, linksOf}
+use Rattle.builder.specs.Lists.{ChildOf, Holds, OnlyChild, Runs, countAt, firstAt, kindAt, size}
+use Rattle.builder.specs.Tree.{Tree, below, fork, leaf}
+
+low-or-high : (a b : ℕ) → (a < b) ⊎ (b ≤ a)
+low-or-high a b = elim (decLt a b) [ yes p ↦ inl p | no n ↦ inr (omega arith) ]
+
+-- ---- a node, written and read
+pub record NodeIs (bs : List Float) (ls : List ℕ) (i : ℕ) (b : Aabb) (f c k : ℕ) : Type 0 where
+  pub box-is : boxAt bs i ≡ b
+  pub first-is : firstAt ls i ≡ f
+  pub count-is : countAt ls i ≡ c
+  pub kind-is : kindAt ls i ≡ k
+
+pub record SameAt (bs bs′ : List Float) (ls ls′ : List ℕ) (i : ℕ) : Type 0 where
+  pub box : boxAt bs′ i ≡ boxAt bs i
+  pub first : firstAt ls′ i ≡ firstAt ls i
+  pub count : countAt ls′ i ≡ countAt ls i
+  pub kind : kindAt ls′ i ≡ kindAt ls i
+
+same-node : (bs bs′ : List Float) (ls ls′ : List ℕ) (i : ℕ) (b : Aabb) (f c k : ℕ) → SameAt bs bs′ ls ls′ i → NodeIs bs ls i b f c k → NodeIs bs′ ls′ i b f c k
+same-node bs bs′ ls ls′ i b f c k s n = record { box-is = s .box ∙ n .box-is; first-is = s .first ∙ n .first-is; count-is = s .count ∙ n .count-is; kind-is = s .kind ∙ n .kind-is }
+
+same-both : (bs bs′ bs″ : List Float) (ls ls′ ls″ : List ℕ) (i : ℕ) → SameAt bs bs′ ls ls′ i → SameAt bs′ bs″ ls′ ls″ i → SameAt bs bs″ ls ls″ i
+same-both bs bs′ bs″ ls ls′ ls″ i s t = record { box = t .box ∙ s .box; first = t .first ∙ s .first; count = t .count ∙ s .count; kind = t .kind ∙ s .kind }
+
+box-numbers : (bs bs′ : List Float) (i : ℕ) → ((k : ℕ) → i * 6 ≤ k → k < i * 6 + 6 → getD bs′ k nan ≡ getD bs k nan) → boxAt bs′ i ≡ boxAt bs i
+unfolding boxAt vectorAt
+box-numbers bs bs′ i f =
+    rw (
+      f (i * 6) (omega arith) (omega arith),
+      f (i * 6 + 1) (omega arith) (omega arith),
+      f (i * 6 + 2) (omega arith) (omega arith),
+      f (i * 6 + 3) (omega arith) (omega arith),
+      f (i * 6 + 3 + 1) (omega arith) (omega arith),
+      f (i * 6 + 3 + 2) (omega arith) (omega arith),
+    )
+
+pub same-numbers : (bs bs′ : List Float) (ls ls′ : List ℕ) (i : ℕ) → ((k : ℕ) → i * 6 ≤ k → k < i * 6 + 6 → getD bs′ k nan ≡ getD bs k nan) → ((k : ℕ) → i * 3 ≤ k → k < i * 3 + 3 → getD ls′ k 0 ≡ getD ls k 0)
+    → SameAt bs bs′ ls ls′ i
+same-numbers bs bs′ ls ls′ i f g = record {
+  box = box-numbers bs bs′ i f;
+  first = g (i * 3) (omega arith) (omega arith);
+  count = g (i * 3 + 1) (omega arith) (omega arith);
+  kind = g (i * 3 + 2) (omega arith) (omega arith);
+}
+
+module _ (bs : List Float) (n : ℕ) (b : Aabb) where
+  abbrev s1 : List Float
+  s1 = set bs (n * 6) (b .min .x)
+
+  abbrev s2 : List Float
+  s2 = set s1 (n * 6 + 1) (b .min .y)
+
+  abbrev s3 : List Float
+  s3 = set s2 (n * 6 + 2) (b .min .z)
+
+  abbrev s4 : List Float
+  s4 = set s3 (n * 6 + 3) (b .max .x)
+
+  abbrev s5 : List Float
+  s5 = set s4 (n * 6 + 4) (b .max .y)
+
+  pub box-other : (k : ℕ) → (k < n * 6) ⊎ (n * 6 + 6 ≤ k) → getD (boxPut bs n b) k nan ≡ getD bs k nan
+  unfolding boxPut
+  box-other k far =
+      getD-set-other s5 (n * 6 + 5) k (b .max .z) nan (λ e. ne (n * 6 + 5) (omega arith) (omega arith) e)
+      ∙ getD-set-other s4 (n * 6 + 4) k (b .max .y) nan (λ e. ne (n * 6 + 4) (omega arith) (omega arith) e)
+      ∙ getD-set-other s3 (n * 6 + 3) k (b .max .x) nan (λ e. ne (n * 6 + 3) (omega arith) (omega arith) e)
+      ∙ getD-set-other s2 (n * 6 + 2) k (b .min .z) nan (λ e. ne (n * 6 + 2) (omega arith) (omega arith) e)
+      ∙ getD-set-other s1 (n * 6 + 1) k (b .min .y) nan (λ e. ne (n * 6 + 1) (omega arith) (omega arith) e)
+      ∙ getD-set-other bs (n * 6) k (b .min .x) nan (λ e. ne (n * 6) (omega arith) (omega arith) e)
+    where
+      ne : (a : ℕ) → n * 6 ≤ a → a < n * 6 + 6 → k ≡ a → ⊥
+      ne a p q e = ⊎-elim (λ u. omega arith) (λ u. omega arith) far
+
+  module _ (h : n * 6 + 6 ≤ length bs) where
+    at-0 : getD (boxPut bs n b) (n * 6) nan ≡ b .min .x
+    unfolding boxPut
+    at-0 =
+        getD-set-other s5 (n * 6 + 5) (n * 6) (b .max .z) nan (λ e. omega arith) ∙ getD-set-other s4 (n * 6 + 4) (n * 6) (b .max .y) nan (λ e. omega arith)
+        ∙ getD-set-other s3 (n * 6 + 3) (n * 6) (b .max .x) nan (λ e. omega arith) ∙ getD-set-other s2 (n * 6 + 2) (n * 6) (b .min .z) nan (λ e. omega arith)
+        ∙ getD-set-other s1 (n * 6 + 1) (n * 6) (b .min .y) nan (λ e. omega arith) ∙ getD-set-same bs (n * 6) (b .min .x) nan (omega arith)
+
+    at-1 : getD (boxPut bs n b) (n * 6 + 1) nan ≡ b .min .y
+    unfolding boxPut
+    at-1 =
+        getD-set-other s5 (n * 6 + 5) (n * 6 + 1) (b .max .z) nan (λ e. omega arith) ∙ getD-set-other s4 (n * 6 + 4) (n * 6 + 1) (b .max .y) nan (λ e. omega arith)
+        ∙ getD-set-other s3 (n * 6 + 3) (n * 6 + 1) (b .max .x) nan (λ e. omega arith) ∙ getD-set-other s2 (n * 6 + 2) (n * 6 + 1) (b .min .z) nan (λ e. omega arith)
+        ∙ getD-set-same s1 (n * 6 + 1) (b .min .y) nan (simp length-set (omega arith))
+
+    at-2 : getD (boxPut bs n b) (n * 6 + 2) nan ≡ b .min .z
+    unfolding boxPut
+    at-2 =
+        getD-set-other s5 (n * 6 + 5) (n * 6 + 2) (b .max .z) nan (λ e. omega arith) ∙ getD-set-other s4 (n * 6 + 4) (n * 6 + 2) (b .max .y) nan (λ e. omega arith)
+        ∙ getD-set-other s3 (n * 6 + 3) (n * 6 + 2) (b .max .x) nan (λ e. omega arith) ∙ getD-set-same s2 (n * 6 + 2) (b .min .z) nan (simp length-set (omega arith))
+
+    at-3 : getD (boxPut bs n b) (n * 6 + 3) nan ≡ b .max .x
+    unfolding boxPut
+    at-3 =
+        getD-set-other s5 (n * 6 + 5) (n * 6 + 3) (b .max .z) nan (λ e. omega arith) ∙ getD-set-other s4 (n * 6 + 4) (n * 6 + 3) (b .max .y) nan (λ e. omega arith)
+        ∙ getD-set-same s3 (n * 6 + 3) (b .max .x) nan (simp length-set (omega arith))
+
+    at-4 : getD (boxPut bs n b) (n * 6 + 3 + 1) nan ≡ b .max .y
+    unfolding boxPut
+    at-4 =
+        getD-set-other s5 (n * 6 + 5) (n * 6 + 3 + 1) (b .max .z) nan (λ e. omega arith)
+        ∙ ap (λ (k : ℕ). getD (set s4 (n * 6 + 4) (b .max .y)) k nan) (up n) ∙ getD-set-same s4 (n * 6 + 4) (b .max .y) nan (simp length-set (omega arith))
+      where
+        up : (n : ℕ) → n * 6 + 3 + 1 ≡ n * 6 + 4
+        up n = omega arith
+
+    at-5 : getD (boxPut bs n b) (n * 6 + 3 + 2) nan ≡ b .max .z
+    unfolding boxPut
+    at-5 = ap (λ (k : ℕ). getD (set s5 (n * 6 + 5) (b .max .z)) k nan) (up n) ∙ getD-set-same s5 (n * 6 + 5) (b .max .z) nan (simp length-set (omega arith))
+      where
+        up : (n : ℕ) → n * 6 + 3 + 2 ≡ n * 6 + 5
+        up n = omega arith
+
+    box-here : boxAt (boxPut bs n b) n ≡ b
+    unfolding boxAt vectorAt
+    box-here = rw (at-0, at-1, at-2, at-3, at-4, at-5)
+
+module _ (ls : List ℕ) (n f c k : ℕ) where
+  pub link-other : (i : ℕ) → (i < n * 3) ⊎ (n * 3 + 3 ≤ i) → getD (linkPut ls n f c k) i 0 ≡ getD ls i 0
+  unfolding linkPut
+  link-other i far =
+      getD-set-other (set (set ls (n * 3) f) (n * 3 + 1) c) (n * 3 + 2) i k 0 (λ e. ne (n * 3 + 2) (omega arith) (omega arith) e)
+      ∙ getD-set-other (set ls (n * 3) f) (n * 3 + 1) i c 0 (λ e. ne (n * 3 + 1) (omega arith) (omega arith) e)
+      ∙ getD-set-other ls (n * 3) i f 0 (λ e. ne (n * 3) (omega arith) (omega arith) e)
+    where
+      ne : (a : ℕ) → n * 3 ≤ a → a < n * 3 + 3 → i ≡ a → ⊥
+      ne a p q e = ⊎-elim (λ u. omega arith) (λ u. omega arith) far
+
+  module _ (h : n * 3 + 3 ≤ length ls) where
+    link-first : firstAt (linkPut ls n f c k) n ≡ f
+    unfolding linkPut
+    link-first =
+        getD-set-other (set (set ls (n * 3) f) (n * 3 + 1) c) (n * 3 + 2) (n * 3) k 0 (λ e. omega arith) ∙ getD-set-other (set ls (n * 3) f) (n * 3 + 1) (n * 3) c 0 (λ e. omega arith)
+        ∙ getD-set-same ls (n * 3) f 0 (omega arith)
+
+    link-count : countAt (linkPut ls n f c k) n ≡ c
+    unfolding linkPut
+    link-count = getD-set-other (set (set ls (n * 3) f) (n * 3 + 1) c) (n * 3 + 2) (n * 3 + 1) k 0 (λ e. omega arith) ∙ getD-set-same (set ls (n * 3) f) (n * 3 + 1) c 0 (simp length-set (omega arith))
+
+    link-kind : kindAt (linkPut ls n f c k) n ≡ k
+    unfolding linkPut
+    link-kind = getD-set-same (set (set ls (n * 3) f) (n * 3 + 1) c) (n * 3 + 2) k 0 (simp length-set (omega arith))
+
+put-node : (bs : List Float) (ls : List ℕ) (n : ℕ) (b : Aabb) (f c k : ℕ) → n * 6 + 6 ≤ length bs → n * 3 + 3 ≤ length ls → NodeIs (boxPut bs n b) (linkPut ls n f c k) n b f c k
+put-node bs ls n b f c k h g = record { box-is = box-here bs n b h; first-is = link-first ls n f c k g; count-is = link-count ls n f c k g; kind-is = link-kind ls n f c k g }
+
+-- ---- lengths
+box-length : (bs : List Float) (n : ℕ) (b : Aabb) → length (boxPut bs n b) ≡ length bs
+unfolding boxPut
+box-length bs n b = simp length-set
+
+link-length : (ls : List ℕ) (n f c k : ℕ) → length (linkPut ls n f c k) ≡ length ls
+unfolding linkPut
+link-length ls n f c k = simp length-set
+
+pub boxes-length : (t : Tree) (node next : ℕ) (bs : List Float) → length (boxesOf t node next bs) ≡ length bs
+unfolding boxesOf
+boxes-length (leaf b f c) node next bs = box-length bs node b
+boxes-length (fork b l r) node next bs =
+    boxes-length r (next + 1) (next + 2 + below l) (boxesOf l next (next + 2) (boxPut bs node b)) ∙ boxes-length l next (next + 2) (boxPut bs node b) ∙ box-length bs node b
+
+pub links-length : (t : Tree) (node next : ℕ) (ls : List ℕ) → length (linksOf t node next ls) ≡ length ls
+unfolding linksOf
+links-length (leaf b f c) node next ls = link-length ls node f c 1
+links-length (fork b l r) node next ls =
+    links-length r (next + 1) (next + 2 + below l) (linksOf l next (next + 2) (linkPut ls node next 0 0)) ∙ links-length l next (next + 2) (linkPut ls node next 0 0) ∙ link-length ls node next 0 0
+
+-- ---- the nodes of a tree whose root is at node and whose others are from next on
+abbrev pub Of : ℕ → ℕ → Tree → ℕ → Type 0
+Of node next t j = (j ≡ node) ⊎ ((next ≤ j) × (j < next + below t))
+
+abbrev Apart : ℕ → ℕ → Tree → ℕ → Type 0
+Apart node next t j = ((j < node) ⊎ (node < j)) × ((j < next) ⊎ (next + below t ≤ j))
+
+module _ (b : Aabb) (l r : Tree) (node next j : ℕ) where
+  of-left : Of next (next + 2) l j → Of node next (fork b l r) j
+  of-left w = ⊎-elim (λ e. inr (omega arith, omega arith)) (λ q. let x = q .0 in let y = q .1 in inr (omega arith, omega arith)) w
+
+  of-right : Of (next + 1) (next + 2 + below l) r j → Of node next (fork b l r) j
+  of-right w = ⊎-elim (λ e. inr (omega arith, omega arith)) (λ q. let x = q .0 in let y = q .1 in inr (omega arith, omega arith)) w
+
+  apart-left : node < next → Apart node next (fork b l r) j → Apart next (next + 2) l j
+  apart-left h w = (⊎-elim (λ u. inl u) (λ u. inr (omega arith)) (w .1), ⊎-elim (λ u. inl (omega arith)) (λ u. inr (omega arith)) (w .1))
+
+  apart-right : node < next → Apart node next (fork b l r) j → Apart (next + 1) (next + 2 + below l) r j
+  apart-right h w = (⊎-elim (λ u. inl (omega arith)) (λ u. inr (omega arith)) (w .1), ⊎-elim (λ u. inl (omega arith)) (λ u. inr (omega arith)) (w .1))
+
+  -- a node of the left half is apart from the right half
+  left-apart : Of next (next + 2) l j → Apart (next + 1) (next + 2 + below l) r j
+  left-apart w =
+      ⊎-elim (λ e. (inl (omega arith), inl (omega arith)))
+      (λ q. let x = q .0 in let y = q .1 in (inr (omega arith), inl (omega arith))) w
+
+  root-apart-left : node < next → j ≡ node → Apart next (next + 2) l j
+  root-apart-left h e = (inl (omega arith), inl (omega arith))
+
+  root-apart-right : node < next → j ≡ node → Apart (next + 1) (next + 2 + below l) r j
+  root-apart-right h e = (inl (omega arith), inl (omega arith))
+
+-- ---- a layout leaves all other nodes as they were
+boxes-other : (t : Tree) (node next j : ℕ) (bs : List Float) → node < next → Apart node next t j → (k : ℕ) → j * 6 ≤ k → k < j * 6 + 6 → getD (boxesOf t node next bs) k nan ≡ getD bs k nan
+unfolding boxesOf
+boxes-other (leaf b f c) node next j bs h w k p q = box-other bs node b k (⊎-elim (λ u. inl (omega arith)) (λ u. inr (omega arith)) (w .0))
+boxes-other (fork b l r) node next j bs h w k p q =
+    boxes-other r (next + 1) (next + 2 + below l) j (boxesOf l next (next + 2) (boxPut bs node b)) (omega arith) (apart-right b l r node next j h w) k p q
+    ∙ boxes-other l next (next + 2) j (boxPut bs node b) (omega arith) (apart-left b l r node next j h w) k p q
+    ∙ box-other bs node b k (⊎-elim (λ u. inl (omega arith)) (λ u. inr (omega arith)) (w .0))
+
+links-other : (t : Tree) (node next j : ℕ) (ls : List ℕ) → node < next → Apart node next t j → (k : ℕ) → j * 3 ≤ k → k < j * 3 + 3 → getD (linksOf t node next ls) k 0 ≡ getD ls k 0
+unfolding linksOf
+links-other (leaf b f c) node next j ls h w k p q = link-other ls node f c 1 k (⊎-elim (λ u. inl (omega arith)) (λ u. inr (omega arith)) (w .0))
+links-other (fork b l r) node next j ls h w k p q =
+    links-other r (next + 1) (next + 2 + below l) j (linksOf l next (next + 2) (linkPut ls node next 0 0)) (omega arith) (apart-right b l r node next j h w) k p q
+    ∙ links-other l next (next + 2) j (linkPut ls node next 0 0) (omega arith) (apart-left b l r node next j h w) k p q
+    ∙ link-other ls node next 0 0 k (⊎-elim (λ u. inl (omega arith)) (λ u. inr (omega arith)) (w .0))
+
+other-same : (t : Tree) (node next j : ℕ) (bs : List Float) (ls : List ℕ) → node < next → Apart node next t j → SameAt bs (boxesOf t node next bs) ls (linksOf t node next ls) j
+other-same t node next j bs ls h w = same-numbers bs (boxesOf t node next bs) ls (linksOf t node next ls) j (boxes-other t node next j bs h w) (links-other t node next j ls h w)
+
+-- ---- the tree stands at its numbers
+pub data Placed (bs : List Float) (ls : List ℕ) : ℕ → ℕ → Tree → Type 0 where
+  at-leaf : {node next : ℕ} {b : Aabb} {f c : ℕ} → NodeIs bs ls node b f c 1 → Placed bs ls node next (leaf b f c)
+  at-fork : {node next : ℕ} {b : Aabb} {l r : Tree} → NodeIs bs ls node b next 0 0 → Placed bs ls next (next + 2) l → Placed bs ls (next + 1) (next + 2 + below l) r → Placed bs ls node next (fork b l r)
+
+pub placed-same : (t : Tree) (node next : ℕ) (bs bs′ : List Float) (ls ls′ : List ℕ) → ((j : ℕ) → Of node next t j → SameAt bs bs′ ls ls′ j) → Placed bs ls node next t → Placed bs′ ls′ node next t
+placed-same (leaf b f c) node next bs bs′ ls ls′ s (at-leaf n) = at-leaf (same-node bs bs′ ls ls′ node b f c 1 (s node (inl refl)) n)
+placed-same (fork b l r) node next bs bs′ ls ls′ s (at-fork n p q) =
+    at-fork (same-node bs bs′ ls ls′ node b next 0 0 (s node (inl refl)) n)
+    (placed-same l next (next + 2) bs bs′ ls ls′ (λ j w. s j (of-left b l r node next j w)) p)
+    (placed-same r (next + 1) (next + 2 + below l) bs bs′ ls ls′ (λ j w. s j (of-right b l r node next j w)) q)
+
+pub placed : (t : Tree) (node next : ℕ) (bs : List Float) (ls : List ℕ) → node < next → (next + below t) * 6 ≤ length bs → (next + below t) * 3 ≤ length ls → Placed (boxesOf t node next bs) (linksOf t node next ls) node next t
+unfolding boxesOf linksOf
+placed (leaf b f c) node next bs ls h g k = at-leaf (put-node bs ls node b f c 1 (omega arith) (omega arith))
+placed (fork b l r) node next bs ls h g k =
+    let B1 = boxPut bs node b in
+    let L1 = linkPut ls node next 0 0 in
+    let B2 = boxesOf l next (next + 2) (boxPut bs node b) in
+    let L2 = linksOf l next (next + 2) (linkPut ls node next 0 0) in
+    let e1 = box-length bs node b in
+    let e2 = boxes-length l next (next + 2) (boxPut bs node b) in
+    let f1 = link-length ls node next 0 0 in
+    let f2 = links-length l next (next + 2) (linkPut ls node next 0 0) in
+    at-fork
+    (same-node B1 (boxesOf r (next + 1) (next + 2 + below l) B2) L1 (linksOf r (next + 1) (next + 2 + below l) L2) node b next 0 0
+    (same-both B1 B2 (boxesOf r (next + 1) (next + 2 + below l) B2) L1 L2 (linksOf r (next + 1) (next + 2 + below l) L2) node
+    (other-same l next (next + 2) node B1 L1 (omega arith) (root-apart-left b l r node next node h refl))
+    (other-same r (next + 1) (next + 2 + below l) node B2 L2 (omega arith) (root-apart-right b l r node next node h refl)))
+    (put-node bs ls node b next 0 0 (omega arith) (omega arith)))
+    (placed-same l next (next + 2) B2 (boxesOf r (next + 1) (next + 2 + below l) B2) L2 (linksOf r (next + 1) (next + 2 + below l) L2)
+    (λ j w. other-same r (next + 1) (next + 2 + below l) j B2 L2 (omega arith) (left-apart b l r node next j w))
+    (placed l next (next + 2) B1 L1 (omega arith) (omega arith) (omega arith)))
+    (placed r (next + 1) (next + 2 + below l) B2 L2 (omega arith) (omega arith) (omega arith))
+
+-- ---- so the lists hold it
+runs-up : (a b : ℕ) (t : Tree) → Runs a b t → a ≤ b
+runs-up a b (leaf x f c) w = let e = w .1 in omega arith
+runs-up a b (fork x l r) w = let u = runs-up a (w .0) l (w .1) in let v = runs-up (w .0) b r (w .2) in omega arith
+
+pub held : (index : List ℕ) (bs : List Float) (ls : List ℕ) (t : Tree) (node next a z : ℕ) → Placed bs ls node next t → Runs a z t → z ≤ length index → next + below t ≤ length ls / 3 → Holds index bs ls node t
+held index bs ls (leaf b f c) node next a z (at-leaf n) w h k =
+    let e = w .0 in
+    let g = w .1 in
+    record { box-is = n .box-is; first-is = n .first-is; count-is = n .count-is; kind-is = n .kind-is; inside = omega arith }
+held index bs ls (fork b l r) node next a z (at-fork n p q) w h k =
+    let e = n .first-is in
+    let v = runs-up (w .0) z r (w .2) in (
+      record { box-is = n .box-is; count-is = n .count-is; kind-is = n .kind-is; children = omega arith },
+      subst⁻¹ (λ (i : ℕ). Holds index bs ls i l) e (held index bs ls l next (next + 2) a (w .0) p (w .1) (omega arith) (omega arith)),
+      subst⁻¹ (λ (i : ℕ). Holds index bs ls (i + 1) r) e (held index bs ls r (next + 1) (next + 2 + below l) (w .0) z q (w .2) h (omega arith)),
+    )
+
+-- ---- every node but the root is the child of exactly one
+split-of : (b : Aabb) (l r : Tree) (node next j : ℕ) → Of node next (fork b l r) j → (j ≡ node) ⊎ (Of next (next + 2) l j ⊎ Of (next + 1) (next + 2 + below l) r j)
+split-of b l r node next j (inl e) = inl e
+split-of b l r node next j (inr q) = inr (go (low-or-high j (next + 1)) (low-or-high j (next + 2)) (low-or-high j (next + 2 + below l)))
+  where
+    go : (j < next + 1) ⊎ (next + 1 ≤ j) → (j < next + 2) ⊎ (next + 2 ≤ j) → (j < next + 2 + below l) ⊎ (next + 2 + below l ≤ j) → Of next (next + 2) l j ⊎ Of (next + 1) (next + 2 + below l) r j
+    go (inl u) v w = let x = q .0 in inl (inl (omega arith))
+    go (inr u) (inl v) w = inr (inl (omega arith))
+    go (inr u) (inr v) (inl w) = inl (inr (v, w))
+    go (inr u) (inr v) (inr w) = let y = q .1 in inr (inr (w, omega arith))
+
+root-children : (bs : List Float) (ls : List ℕ) (node next i j : ℕ) (b : Aabb) → NodeIs bs ls node b next 0 0 → i ≡ node → ChildOf ls i j → (next ≤ j) × (j < next + 2)
+root-children bs ls node next i j b n e k = let x = n .first-is in let z = ap (λ (v : ℕ). firstAt ls v) e in ⊎-elim (λ u. (omega arith, omega arith)) (λ u. (omega arith, omega arith)) (k .1)
+
+fork-below : (bs : List Float) (ls : List ℕ) (b : Aabb) (l r : Tree) (node next i j : ℕ) → NodeIs bs ls node b next 0 0 → ChildOf ls i j → (Of next (next + 2) l i → (next + 2 ≤ j) × (j < next + 2 + below l))
+    → (Of (next + 1) (next + 2 + below l) r i → (next + 2 + below l ≤ j) × (j < next + 2 + below l + below r)) → (i ≡ node) ⊎ (Of next (next + 2) l i ⊎ Of (next + 1) (next + 2 + below l) r i)
+    → (next ≤ j) × (j < next + (2 + (below l + below r)))
+fork-below bs ls b l r node next i j n k f g (inl e) = let d = root-children bs ls node next i j b n e k in let x = d .0 in let y = d .1 in (omega arith, omega arith)
+fork-below bs ls b l r node next i j n k f g (inr (inl u)) = let d = f u in let x = d .0 in let y = d .1 in (omega arith, omega arith)
+fork-below bs ls b l r node next i j n k f g (inr (inr u)) = let d = g u in let x = d .0 in let y = d .1 in (omega arith, omega arith)
+
+-- a child of one of a tree's nodes is below the tree's root
+below-root : (bs : List Float) (ls : List ℕ) (t : Tree) (node next i j : ℕ) → Placed bs ls node next t → Of node next t i → ChildOf ls i j → (next ≤ j) × (j < next + below t)
+below-root bs ls (leaf b f c) node next i j (at-leaf n) w k = ⊎-elim (λ e. absurd (leaf-childless e)) (λ q. let x = q .0 in let y = q .1 in absurd (omega arith)) w
+  where
+    leaf-childless : i ≡ node → ⊥
+    leaf-childless e = let x = n .kind-is in let y = k .0 in let z = ap (λ (v : ℕ). kindAt ls v) e in omega arith
+below-root bs ls (fork b l r) node next i j (at-fork n p q) w k =
+    fork-below bs ls b l r node next i j n k (λ u. below-root bs ls l next (next + 2) i j p u k) (λ u. below-root bs ls r (next + 1) (next + 2 + below l) i j q u k) (split-of b l r node next i w)
+
+pub record ParentIn (ls : List ℕ) (node next : ℕ) (t : Tree) (j : ℕ) : Type 0 where
+  pub parent : ℕ
+  pub inside : Of node next t parent
+  pub child : ChildOf ls parent j
+  pub only : (i : ℕ) → Of node next t i → ChildOf ls i j → i ≡ parent
+
+module _ (bs : List Float) (ls : List ℕ) (b : Aabb) (l r : Tree) (node next j : ℕ) (n : NodeIs bs ls node b next 0 0) (p : Placed bs ls next (next + 2) l) (q : Placed bs ls (next + 1) (next + 2 + below l) r) where
+  in-left : (i : ℕ) → Of next (next + 2) l i → ChildOf ls i j → (next + 2 ≤ j) × (j < next + 2 + below l)
+  in-left i u k = below-root bs ls l next (next + 2) i j p u k
+
+  in-right : (i : ℕ) → Of (next + 1) (next + 2 + below l) r i → ChildOf ls i j → (next + 2 + below l ≤ j) × (j < next + 2 + below l + below r)
+  in-right i u k = below-root bs ls r (next + 1) (next + 2 + below l) i j q u k
+
+  root-parent : (j ≡ next) ⊎ (j ≡ next + 1) → ParentIn ls node next (fork b l r) j
+  root-parent w = record { parent = node; inside = inl refl; child = (n .kind-is, mine); only = λ i u k. go i (split-of b l r node next i u) k }
+    where
+      mine : (j ≡ firstAt ls node) ⊎ (j ≡ firstAt ls node + 1)
+      mine = let x = n .first-is in ⊎-elim (λ e. inl (omega arith)) (λ e. inr (omega arith)) w
+
+      go : (i : ℕ) → (i ≡ node) ⊎ (Of next (next + 2) l i ⊎ Of (next + 1) (next + 2 + below l) r i) → ChildOf ls i j → i ≡ node
+      go i (inl e) k = e
+      go i (inr (inl u)) k = let d = in-left i u k in let x = d .0 in absurd (⊎-elim (λ e. omega arith) (λ e. omega arith) w)
+      go i (inr (inr u)) k = let d = in-right i u k in let x = d .0 in absurd (⊎-elim (λ e. omega arith) (λ e. omega arith) w)
+
+  left-parent : next + 2 ≤ j → j < next + 2 + below l → ParentIn ls next (next + 2) l j → ParentIn ls node next (fork b l r) j
+  left-parent x y P = record { parent = P .parent; inside = of-left b l r node next (P .parent) (P .inside); child = P .child; only = λ i u k. go i (split-of b l r node next i u) k }
+    where
+      go : (i : ℕ) → (i ≡ node) ⊎ (Of next (next + 2) l i ⊎ Of (next + 1) (next + 2 + below l) r i) → ChildOf ls i j → i ≡ P .parent
+      go i (inl e) k = let d = root-children bs ls node next i j b n e k in let z = d .1 in absurd (omega arith)
+      go i (inr (inl u)) k = P .only i u k
+      go i (inr (inr u)) k = let d = in-right i u k in let z = d .0 in absurd (omega arith)
+
+  right-parent : next + 2 + below l ≤ j → ParentIn ls (next + 1) (next + 2 + below l) r j → ParentIn ls node next (fork b l r) j
+  right-parent x P = record { parent = P .parent; inside = of-right b l r node next (P .parent) (P .inside); child = P .child; only = λ i u k. go i (split-of b l r node next i u) k }
+    where
+      go : (i : ℕ) → (i ≡ node) ⊎ (Of next (next + 2) l i ⊎ Of (next + 1) (next + 2 + below l) r i) → ChildOf ls i j → i ≡ P .parent
+      go i (inl e) k = let d = root-children bs ls node next i j b n e k in let z = d .1 in absurd (omega arith)
+      go i (inr (inl u)) k = let d = in-left i u k in let z = d .1 in absurd (omega arith)
+      go i (inr (inr u)) k = P .only i u k
+
+  one-parent : next ≤ j → j < next + (2 + (below l + below r)) → (next + 2 ≤ j → j < next + 2 + below l → ParentIn ls next (next + 2) l j)
+      → (next + 2 + below l ≤ j → j < next + 2 + below l + below r → ParentIn ls (next + 1) (next + 2 + below l) r j) → (j < next + 2) ⊎ (next + 2 ≤ j) → (j < next + 2 + below l) ⊎ (next + 2 + below l ≤ j)
+      → ParentIn ls node next (fork b l r) j
+  one-parent x y f g (inl u) v = root-parent (⊎-elim (λ e. inl (omega arith)) (λ e. inr (omega arith)) (low-or-high j (next + 1)))
+  one-parent x y f g (inr u) (inl v) = left-parent u v (f u v)
+  one-parent x y f g (inr u) (inr v) = right-parent v (g v (omega arith))
+
+pub parent-in : (bs : List Float) (ls : List ℕ) (t : Tree) (node next j : ℕ) → Placed bs ls node next t → next ≤ j → j < next + below t → ParentIn ls node next t j
+parent-in bs ls (leaf b f c) node next j (at-leaf n) x y = absurd (omega arith)
+parent-in bs ls (fork b l r) node next j (at-fork n p q) x y =
+    one-parent bs ls b l r node next j n p q x y (λ u v. parent-in bs ls l next (next + 2) j p u v) (λ u v. parent-in bs ls r (next + 1) (next + 2 + below l) j q u v) (low-or-high j (next + 2)) (low-or-high j (next + 2 + below l))
+
+pub only-child : (bs : List Float) (ls : List ℕ) (t : Tree) (j : ℕ) → Placed bs ls 0 1 t → 0 < j → j < size t → OnlyChild ls (size t) j
+only-child bs ls t j p x y =
+    let P = parent-in bs ls t 0 1 j p x y in
+    record {
+      parent = P .parent;
+      inside = ⊎-elim (λ e. omega arith) (λ q. q .1) (P .inside);
+      child = P .child;
+      only = λ i h k. P .only i (⊎-elim (λ u. inl (omega arith)) (λ u. inr (u, h)) (low-or-high i 1)) k;
+    }
