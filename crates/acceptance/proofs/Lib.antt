@@ -2,3 +2,4 @@ pub mod Same
 pub mod Probes
 pub mod Fixed
 pub mod Bridge
+pub mod Demand
