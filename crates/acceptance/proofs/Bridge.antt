@@ -26,7 +26,7 @@ box-as : (t : Grown-tree) → boxOf (asTree t) ≡ grown-box t
 box-as (grown-leaf b p c) = refl
 box-as (grown-fork b u v) = refl
 
-size-as : (t : Grown-tree) → size (asTree t) ≡ grown-size t
+pub size-as : (t : Grown-tree) → size (asTree t) ≡ grown-size t
 size-as (grown-leaf b p c) = refl
 size-as (grown-fork b u v) = omega (arith, size-as u, size-as v)
 

@@ -11,3 +11,6 @@ pub mod Whole
 pub mod Rest
 pub mod Enclosing
 pub mod Placing
+pub mod Trees
+pub mod Successes
+pub mod Probes

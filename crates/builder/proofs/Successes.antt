@@ -1,0 +1,296 @@
+-- The lists of a build that succeeds: they hold the tree, as a walk needs it, and what is left of the lent room stays. Assumes nothing.
+use mathlib.Core.Path.{_≡_, refl, sym, _∙_, ap, subst, subst⁻¹}
+use Prim.Native.Nat.{ℕ, zero, suc, _+_, _*_, _/_, _%_, _≤_, _<_}
+use native.Mathlib.Omega.{arith}
+use native.Mathlib.Decide.{ℕ-discrete}
+use mathlib.Core.Logic.{_⊎_, inl, inr, ⊎-elim}
+use mathlib.Core.Bool.{Bool, true, false, cond, not, _||_}
+use mathlib.Core.Option.{Option, none, some}
+use mathlib.Core.List.{List, [], _∷_, _++_}
+use lib.ListN.{length, getD, take, drop, length-append}
+use lib.Seq.{getD-take, length-take-le, take-at, drop-at}
+use lib.Dec.{T, ltb, eqb}
+use lib.Ieee.{Float, nan, neg, le, eq, ofBits}
+use borrow.Author.Tests.{eqb-true, ltb-false}
+use Rattle.aabb.specs.Bounds.{bounded, emptyBox, isEmpty, usable}
+use Rattle.aabb.specs.Vector.{allAtMost, allEqual, allWithin, within}
+use Rattle.aabb.specs.declared.bounds.Aabb.{Aabb}
+use Rattle.triangle.specs.Mesh.{admittedTriangle, triangleAt}
+use Rattle.builder.specs.declared.Built.the-variants.{Tree as Grew, Refused}
+use Rattle.builder.specs.declared.start.Found.{Found}
+use Rattle.builder.specs.declared.start.Found.the-variants.{At, Nothing}
+use Rattle.builder.specs.Build.{Outcome, built, checked, cramped, finished, firstRefused, outcome, room, upTo}
+use Rattle.builder.specs.Heap.{occ}
+use Rattle.builder.specs.Layout.{boxesOf, linksOf}
+use Rattle.builder.specs.Lists.{Accepted, Exact, Nested, Runs}
+use Rattle.builder.specs.Range.{boxFrom, nodeBox}
+use Rattle.builder.specs.Tree.{Grown, Tree, below, deepest, grow, leaves, most-triangles}
+use Rattle.builder.proofs.Enclosing.{Admitted, node-bounded}
+use Rattle.builder.proofs.Fills.{room-is}
+use Rattle.builder.proofs.Perm.{hit-cases, occ-append, occ-at}
+use Rattle.builder.proofs.Placing.{Placed, boxes-length, held, links-length, only-child, placed, placed-same, same-numbers}
+use Rattle.builder.proofs.Rest.{boxes-rest, links-rest}
+use Rattle.builder.proofs.Trees.{Fine, Of-some, grown-fine}
+use Rattle.builder.proofs.Whole.{twice-leaves}
+
+-- ---- what a success is
+pub record Success (mesh : List Float) (index : List ℕ) (boxes : List Float) (links : List ℕ) (nodes leaf-count : ℕ) (o : Outcome) : Type 0 where
+  pub whole : length mesh % 12 ≡ 0
+  pub few : length mesh / 12 ≤ most-triangles
+  pub index-room : length mesh / 12 ≤ length index
+  pub box-room : room (length mesh / 12) ≤ length boxes / 6
+  pub link-room : room (length mesh / 12) ≤ length links / 3
+  pub all-admitted : firstRefused mesh 0 (length mesh / 12) ≡ Nothing
+  pub grown : Grown
+  pub grew : grow mesh deepest 0 (upTo (length mesh / 12)) ≡ some grown
+  pub nodes-are : nodes ≡ 1 + below (grown .tree)
+  pub leaves-are : leaf-count ≡ leaves (grown .tree)
+  pub index-is : o .index ≡ grown .ids ++ drop (length mesh / 12) index
+  pub boxes-are : o .boxes ≡ boxesOf (grown .tree) 0 1 boxes
+  pub links-are : o .links ≡ linksOf (grown .tree) 0 1 links
+
+no-refusal : {A : Type 0} (k a n l : ℕ) → Refused k a ≡ Grew n l → A
+no-refusal k a n l e = absurd (let z : _≡_ {A = ℕ} 0 1 = cc in omega arith)
+
+-- a test that would refuse was false, and the rest gives the outcome
+peel : (t : Bool) (k a n l : ℕ) (xs : List ℕ) (bs : List Float) (ls : List ℕ) (rest o : Outcome) → cond t (outcome (Refused k a) xs bs ls) rest ≡ o → o .answer ≡ Grew n l → (t ≡ false) × (rest ≡ o)
+peel true k a n l xs bs ls rest o e g = no-refusal k a n l (ap (λ (w : Outcome). w .answer) e ∙ g)
+peel false k a n l xs bs ls rest o e g = (refl, e)
+
+not-false : (t : Bool) → not t ≡ false → t ≡ true
+not-false true e = refl
+not-false false e = absurd (let z : _≡_ {A = ℕ} 0 1 = cc in omega arith)
+
+neither : (t u : Bool) → (t || u) ≡ false → (t ≡ false) × (u ≡ false)
+neither true u e = absurd (let z : _≡_ {A = ℕ} 0 1 = cc in omega arith)
+neither false u e = (refl, e)
+
+module _ (mesh : List Float) (index : List ℕ) (boxes : List Float) (links : List ℕ) (nodes leaf-count : ℕ) (o : Outcome) (g : o .answer ≡ Grew nodes leaf-count) where
+  pub record Passed : Type 0 where
+    pub whole : length mesh % 12 ≡ 0
+    pub few : length mesh / 12 ≤ most-triangles
+    pub index-room : length mesh / 12 ≤ length index
+    pub box-room : room (length mesh / 12) ≤ length boxes / 6
+    pub link-room : room (length mesh / 12) ≤ length links / 3
+    pub rest : checked mesh (length mesh / 12) (firstRefused mesh 0 (length mesh / 12)) index boxes links ≡ o
+
+  passed : built mesh index boxes links ≡ o → Passed
+  unfolding built cramped
+  passed e =
+      let p1 = peel (not (eqb (length mesh % 12) 0)) 1 0 nodes leaf-count index boxes links _ o e g in
+      let p2 = peel (ltb most-triangles (length mesh / 12)) 2 (length mesh / 12) nodes leaf-count index boxes links _ o (p1 .1) g in
+      let p3 = peel (ltb (length index) (length mesh / 12)) 3 0 nodes leaf-count index boxes links _ o (p2 .1) g in
+      let p4 = peel (ltb (length boxes / 6) (room (length mesh / 12)) || ltb (length links / 3) (room (length mesh / 12))) 4 (room (length mesh / 12)) nodes leaf-count index boxes links _ o (p3 .1) g in
+      let r = neither (ltb (length boxes / 6) (room (length mesh / 12))) (ltb (length links / 3) (room (length mesh / 12))) (p4 .0) in
+      record {
+        whole = eqb-true (length mesh % 12) 0 (not-false (eqb (length mesh % 12) 0) (p1 .0));
+        few = ltb-false most-triangles (length mesh / 12) (p2 .0);
+        index-room = ltb-false (length index) (length mesh / 12) (p3 .0);
+        box-room = ltb-false (length boxes / 6) (room (length mesh / 12)) (r .0);
+        link-room = ltb-false (length links / 3) (room (length mesh / 12)) (r .1);
+        rest = p4 .1;
+      }
+
+  fine-rest : (f : Found) → checked mesh (length mesh / 12) f index boxes links ≡ o → (f ≡ Nothing) × (finished (length mesh / 12) (grow mesh deepest 0 (upTo (length mesh / 12))) index boxes links ≡ o)
+  unfolding checked
+  fine-rest (At i) e = no-refusal 5 i nodes leaf-count (ap (λ (w : Outcome). w .answer) e ∙ g)
+  fine-rest Nothing e = (refl, e)
+
+  grew-same : (a b c d : ℕ) → Grew a b ≡ Grew c d → (c ≡ a) × (d ≡ b)
+  grew-same a b c d e = (cc, cc)
+
+  done : Passed → (w : Option Grown) → grow mesh deepest 0 (upTo (length mesh / 12)) ≡ w → firstRefused mesh 0 (length mesh / 12) ≡ Nothing → finished (length mesh / 12) w index boxes links ≡ o → Success mesh index boxes links nodes leaf-count o
+  unfolding finished
+  done p none s f e = no-refusal 6 0 nodes leaf-count (ap (λ (w : Outcome). w .answer) e ∙ g)
+  done p (some t) s f e =
+      let a = grew-same (1 + below (t .tree)) (leaves (t .tree)) nodes leaf-count (ap (λ (w : Outcome). w .answer) e ∙ g) in
+      record {
+        whole = p .whole;
+        few = p .few;
+        index-room = p .index-room;
+        box-room = p .box-room;
+        link-room = p .link-room;
+        all-admitted = f;
+        grown = t;
+        grew = s;
+        nodes-are = a .0;
+        leaves-are = a .1;
+        index-is = ap (λ (w : Outcome). w .index) (sym e);
+        boxes-are = ap (λ (w : Outcome). w .boxes) (sym e);
+        links-are = ap (λ (w : Outcome). w .links) (sym e);
+      }
+
+  pub success : built mesh index boxes links ≡ o → Success mesh index boxes links nodes leaf-count o
+  success e =
+      let p = passed e in
+      let q = fine-rest (firstRefused mesh 0 (length mesh / 12)) (p .rest) in
+      done p (grow mesh deepest 0 (upTo (length mesh / 12))) refl (q .0) (q .1)
+
+-- ---- 0, 1, .., n - 1
+up-none : upTo 0 ≡ []
+unfolding upTo
+up-none = refl
+
+up-length : (n : ℕ) → length (upTo n) ≡ n
+unfolding upTo
+up-length zero = refl
+up-length (suc n) = let e = up-length n in omega (arith, length-append (upTo n) (n ∷ []))
+
+up-below : (n v : ℕ) → 0 < occ v (upTo n) → v < n
+unfolding upTo
+up-below zero v h = absurd (omega arith)
+up-below (suc n) v h =
+    let e = occ-append v (upTo n) (n ∷ []) in
+    ⊎-elim (λ p. omega arith) (λ p. let o : 0 < occ v (upTo n) = omega arith in let l = up-below n v o in omega arith) (hit-cases v n)
+
+-- ---- every triangle is admitted
+refused-go : (m : List Float) (i k : ℕ) (t : Bool) → admittedTriangle (triangleAt m i) ≡ t → firstRefused m i (suc k) ≡ Nothing → (T t) × (firstRefused m (suc i) k ≡ Nothing)
+unfolding firstRefused
+refused-go m i k true p e = (tt, sym (rw (p, firstRefused)) ∙ e)
+refused-go m i k false p e = absurd (let s : firstRefused m i (suc k) ≡ At i = rw (p, firstRefused) in let z : _≡_ {A = ℕ} 0 1 = cc in omega arith)
+
+all-fine : (m : List Float) (k i j : ℕ) → firstRefused m i k ≡ Nothing → i ≤ j → j < i + k → T (admittedTriangle (triangleAt m j))
+all-fine m zero i j e p q = absurd (omega arith)
+all-fine m (suc k) i j e p q =
+    let s = refused-go m i k (admittedTriangle (triangleAt m i)) refl e in
+    ⊎-elim (λ h. subst⁻¹ (λ (z : ℕ). T (admittedTriangle (triangleAt m z))) h (s .0)) (λ h. all-fine m k (suc i) j (s .1) (omega arith) (omega arith)) (same? j i)
+  where
+    same? : (a b : ℕ) → (a ≡ b) ⊎ (a ≡ b → ⊥)
+    same? a b = elim (ℕ-discrete a b) [ yes p ↦ inl p | no n ↦ inr n ]
+
+empty-usable : (m : List Float) → T (usable (nodeBox m []))
+unfolding nodeBox boxFrom emptyBox usable bounded isEmpty allEqual allWithin within allAtMost eq le neg ofBits
+empty-usable m = tt
+
+-- ---- the lists of a success, without spare room, are accepted
+module _ (mesh : List Float) (index : List ℕ) (boxes : List Float) (links : List ℕ) (nodes leaf-count : ℕ) (o : Outcome) (s : Success mesh index boxes links nodes leaf-count o) where
+  abbrev t : Tree
+  t = s .grown .tree
+
+  abbrev ids : List ℕ
+  ids = upTo (length mesh / 12)
+
+  fine : Fine mesh deepest 0 ids (s .grown)
+  fine = subst (Of-some (Fine mesh deepest 0 ids)) (s .grew) (grown-fine mesh deepest 0 ids)
+
+  n-is : length ids ≡ length mesh / 12
+  n-is = up-length (length mesh / 12)
+
+  its-length : length (s .grown .ids) ≡ length mesh / 12
+  its-length = fine .len ∙ n-is
+
+  pub index-taken : take (length mesh / 12) (o .index) ≡ s .grown .ids
+  index-taken = ap (λ (z : List ℕ). take (length mesh / 12) z) (s .index-is) ∙ take-at (s .grown .ids) (drop (length mesh / 12) index) (length mesh / 12) its-length
+
+  small : 1 + below t ≤ room (length mesh / 12)
+  small = let a = fine .room in let b = n-is in omega (arith, room-is (length mesh / 12))
+
+  box-fit : (1 + below t) * 6 ≤ length boxes
+  box-fit = let a = small in let b = s .box-room in omega arith
+
+  link-fit : (1 + below t) * 3 ≤ length links
+  link-fit = let a = small in let b = s .link-room in omega arith
+
+  abbrev B : List Float
+  B = boxesOf t 0 1 boxes
+
+  abbrev L : List ℕ
+  L = linksOf t 0 1 links
+
+  abbrev B′ : List Float
+  B′ = take ((1 + below t) * 6) B
+
+  abbrev L′ : List ℕ
+  L′ = take ((1 + below t) * 3) L
+
+  box-count : length B′ ≡ (1 + below t) * 6
+  box-count = let a = boxes-length t 0 1 boxes in let b = box-fit in length-take-le ((1 + below t) * 6) B (omega arith)
+
+  link-count : length L′ ≡ (1 + below t) * 3
+  link-count = let a = links-length t 0 1 links in let b = link-fit in length-take-le ((1 + below t) * 3) L (omega arith)
+
+  stands : Placed B′ L′ 0 1 t
+  stands = placed-same t 0 1 B B′ L L′ (λ j w. let h : j < 1 + below t = ⊎-elim (λ e. omega arith) (λ q. q .1) w in
+      same-numbers B B′ L L′ j (λ k x y. getD-take ((1 + below t) * 6) B k nan (omega arith)) (λ k x y. getD-take ((1 + below t) * 3) L k 0 (omega arith)))
+      (placed t 0 1 boxes links (omega arith) box-fit link-fit)
+
+  admits : (k : ℕ) → k < length mesh / 12 → T (admittedTriangle (triangleAt mesh k))
+  admits k h = all-fine mesh (length mesh / 12) 0 k (s .all-admitted) (omega arith) (omega arith)
+
+  all-admits : Admitted mesh ids
+  all-admits v h = admits v (up-below (length mesh / 12) v h)
+
+  is-nested : (k : ℕ) → length mesh / 12 ≡ k → Nested t
+  is-nested zero e =
+      let z : length ids ≡ 0 = n-is ∙ e in
+      let none : ids ≡ [] = ap upTo e ∙ up-none in
+      subst⁻¹ Nested (fine .none z) (subst⁻¹ (λ (l : List ℕ). T (usable (nodeBox mesh l))) none (empty-usable mesh))
+  is-nested (suc k) e = let a = n-is in fine .nested (omega arith) all-admits
+
+  its-entries : (p : ℕ) → p < length (s .grown .ids) → getD (s .grown .ids) p 0 < length mesh / 12
+  its-entries p h = up-below (length mesh / 12) (getD (s .grown .ids) p 0) (omega (arith, occ-at (s .grown .ids) p h, fine .same (getD (s .grown .ids) p 0)))
+
+  its-runs : Runs 0 (length (s .grown .ids)) t
+  its-runs = subst⁻¹ (λ (k : ℕ). Runs 0 k t) (fine .len ∙ from-none (length ids)) (fine .runs)
+    where
+      from-none : (k : ℕ) → k ≡ 0 + k
+      from-none k = omega arith
+
+  its-lists : Accepted mesh (s .grown .ids) B′ L′ t
+  its-lists =
+      let a = link-count in
+      let b = box-count in
+      let c = small in
+      record {
+        whole = s .whole;
+        few = s .few;
+        admitted = admits;
+        entries = its-entries;
+        linked = omega arith;
+        boxed = omega arith;
+        nodes = let f = s .few in omega (arith, room-is (length mesh / 12));
+        fits = omega arith;
+        holds = held (s .grown .ids) B′ L′ t 0 1 0 (length (s .grown .ids)) stands its-runs (omega arith) (omega arith);
+        shallow = fine .shallow;
+        nested = is-nested (length mesh / 12) refl;
+        runs = its-runs;
+      }
+
+  its-rest : Exact (length mesh / 12) (s .grown .ids) L′ t
+  its-rest =
+      let a = link-count in
+      let b = n-is in
+      record {
+        one-each = its-length;
+        permuted = fine .same;
+        nodes-are = omega arith;
+        odd-nodes = let e = twice-leaves t in omega arith;
+        once = λ j x y. only-child B′ L′ t j stands x y;
+        finite = λ h. subst⁻¹ (λ (z : Aabb). T (bounded z)) (fine .box-is) (node-bounded mesh ids (omega arith) all-admits);
+      }
+
+  taken-boxes : take (nodes * 6) (o .boxes) ≡ B′
+  taken-boxes = ap (λ (k : ℕ). take (k * 6) (o .boxes)) (s .nodes-are) ∙ ap (λ (z : List Float). take ((1 + below t) * 6) z) (s .boxes-are)
+
+  taken-links : take (nodes * 3) (o .links) ≡ L′
+  taken-links = ap (λ (k : ℕ). take (k * 3) (o .links)) (s .nodes-are) ∙ ap (λ (z : List ℕ). take ((1 + below t) * 3) z) (s .links-are)
+
+  pub accepted : Accepted mesh (take (length mesh / 12) (o .index)) (take (nodes * 6) (o .boxes)) (take (nodes * 3) (o .links)) (s .grown .tree)
+  accepted =
+      subst⁻¹ (λ (x : List ℕ). Accepted mesh x (take (nodes * 6) (o .boxes)) (take (nodes * 3) (o .links)) t) index-taken
+      (subst⁻¹ (λ (y : List Float). Accepted mesh (s .grown .ids) y (take (nodes * 3) (o .links)) t) taken-boxes
+      (subst⁻¹ (λ (z : List ℕ). Accepted mesh (s .grown .ids) B′ z t) taken-links its-lists))
+
+  pub exact : Exact (length mesh / 12) (take (length mesh / 12) (o .index)) (take (nodes * 3) (o .links)) (s .grown .tree)
+  exact =
+      subst⁻¹ (λ (x : List ℕ). Exact (length mesh / 12) x (take (nodes * 3) (o .links)) t) index-taken (subst⁻¹ (λ (z : List ℕ). Exact (length mesh / 12) (s .grown .ids) z t) taken-links its-rest)
+
+  -- the rest of the lent room stays
+  pub index-stays : drop (length mesh / 12) (o .index) ≡ drop (length mesh / 12) index
+  index-stays = ap (λ (z : List ℕ). drop (length mesh / 12) z) (s .index-is) ∙ drop-at (s .grown .ids) (drop (length mesh / 12) index) (length mesh / 12) its-length
+
+  pub boxes-stay : drop (nodes * 6) (o .boxes) ≡ drop (nodes * 6) boxes
+  boxes-stay = ap (λ (z : List Float). drop (nodes * 6) z) (s .boxes-are) ∙ boxes-rest (nodes * 6) t 0 1 boxes (omega arith) (let e = s .nodes-are in omega arith)
+
+  pub links-stay : drop (nodes * 3) (o .links) ≡ drop (nodes * 3) links
+  links-stay = ap (λ (z : List ℕ). drop (nodes * 3) z) (s .links-are) ∙ links-rest (nodes * 3) t 0 1 links (omega arith) (let e = s .nodes-are in omega arith)

@@ -1,0 +1,68 @@
+-- The tests are those of the definition, in the order in which the bytes allow them. Assumes nothing.
+use mathlib.Core.Path.{refl}
+use native.Mathlib.Omega.{arith}
+use Rattle.report.proofs.Measuring.{over, cut, over-rays, misfit, good}
+use borrow.Author.Needs.{needs}
+use Rattle.report.proofs.input.measure.Statement.{statement}
+use Rattle.report.proofs.input.measure.Tie as tie
+
+returns : tie.Need-returns
+returns c = cut _ _ refl (omega arith)
+
+word-requires : tie.Need-word-requires
+word-requires c κs = search needs
+
+returns-2 : tie.Need-returns-2
+returns-2 c = over _ _ (c .before .word .ensures .0) (c .if2 .taken)
+
+mul-at : tie.Need-mul-at
+mul-at c = search needs
+
+add-at : tie.Need-add-at
+add-at c = search needs
+
+add-if3 : tie.Need-add-if3
+add-if3 c = search needs
+
+returns-3 : tie.Need-returns-3
+returns-3 c = cut _ _ (c .before .before .word .ensures .0) (c .if3 .taken)
+
+word-requires-2 : tie.Need-word-requires-2
+word-requires-2 c κs = search needs
+
+returns-4 : tie.Need-returns-4
+returns-4 c = over-rays _ _ (c .before .before .before .before .word .ensures .0) _ (c .before .word2 .ensures .0) (c .if4 .taken)
+
+add-if5 : tie.Need-add-if5
+add-if5 c = search needs
+
+mul-if5 : tie.Need-mul-if5
+mul-if5 c = search needs
+
+add-if5-2 : tie.Need-add-if5-2
+add-if5-2 c = search needs
+
+returns-5 : tie.Need-returns-5
+returns-5 c = misfit _ _ (c .before .before .before .before .before .word .ensures .0) _ (c .before .before .word2 .ensures .0) (c .if5 .taken)
+
+returns-6 : tie.Need-returns-6
+returns-6 c = good _ _ (c .before .before .before .before .before .word .ensures .0) _ (c .before .before .word2 .ensures .0) (c .before .before .before .before .if2 .left) (c .before .if4 .left) (c .if5 .left)
+
+pub measure-spec : {M : Type 1} → statement M
+measure-spec =
+    tie.close
+    (tie.spec
+    returns
+    word-requires
+    returns-2
+    mul-at
+    add-at
+    add-if3
+    returns-3
+    word-requires-2
+    returns-4
+    add-if5
+    mul-if5
+    add-if5-2
+    returns-5
+    returns-6)

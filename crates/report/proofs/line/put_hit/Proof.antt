@@ -1,0 +1,71 @@
+-- The parts of the line, one after the other. Assumes nothing.
+use native.Mathlib.Omega.{arith}
+use Rattle.report.specs.Lines.{hitLine}
+use Rattle.report.proofs.Writing.{and-then}
+use borrow.Author.Needs.{needs}
+use Rattle.report.proofs.line.put_hit.Statement.{statement}
+use Rattle.report.proofs.line.put_hit.Tie as tie
+
+slice-aggregate-put-named : tie.Need-slice-aggregate-put-named
+slice-aggregate-put-named c = search needs
+
+put-named-requires : tie.Need-put-named-requires
+put-named-requires c κs = search needs
+
+slice-aggregate-put-named-2 : tie.Need-slice-aggregate-put-named-2
+slice-aggregate-put-named-2 c = search needs
+
+put-named-requires-2 : tie.Need-put-named-requires-2
+put-named-requires-2 c κs = search needs
+
+slice-aggregate-put : tie.Need-slice-aggregate-put
+slice-aggregate-put c = search needs
+
+put-requires : tie.Need-put-requires
+put-requires c κs = search needs
+
+put-hexadecimal-requires : tie.Need-put-hexadecimal-requires
+put-hexadecimal-requires c κs = search needs
+
+slice-aggregate-put-pair : tie.Need-slice-aggregate-put-pair
+slice-aggregate-put-pair c = search needs
+
+slice-aggregate-put-pair-2 : tie.Need-slice-aggregate-put-pair-2
+slice-aggregate-put-pair-2 c = search needs
+
+put-pair-requires : tie.Need-put-pair-requires
+put-pair-requires c κs = search needs
+
+same-length : tie.Need-same-length
+same-length c = search needs
+
+returns : tie.Need-returns
+unfolding hitLine
+returns c =
+    let start = c .before .before .before .before .before .before .before .before .before .before .before .before .before .before .before .before .before .before .before .before .before .before .before .before .before .before in
+    let a = c .before .before .before .before .before .before .before .before .before .before .before .before .before .before .before .before .before .before .before .before .before .before .put-named .ensures in
+    let b = c .before .before .before .before .before .before .before .before .before .before .before .before .before .before .before .before .before .put-named2 .ensures in
+    let t = c .before .before .before .before .before .before .before .before .before .before .before .before .put .ensures in
+    let x = c .before .before .before .before .before .before .before .before .put-hexadecimal .ensures in
+    let e = c .before .before .put-pair .ensures in
+    let ab = and-then _ _ _ _ _ _ _ _ (omega (arith, a .1, start .pre)) (a .0) (b .0) in
+    let abt = and-then _ _ _ _ _ _ _ _ (omega (arith, a .1, b .1, start .pre)) ab t in
+    let abtx = and-then _ _ _ _ _ _ _ _ (omega (arith, a .1, b .1, t .place, start .pre)) abt (x .0) in
+    (and-then _ _ _ _ _ _ _ _ (omega (arith, a .1, b .1, t .place, x .1, start .pre)) abtx (e .0), omega (arith, a .1, b .1, t .place, x .1, e .1))
+
+pub put-hit-spec : {M : Type 1} → statement M
+put-hit-spec =
+    tie.close
+    (tie.spec
+    slice-aggregate-put-named
+    put-named-requires
+    slice-aggregate-put-named-2
+    put-named-requires-2
+    slice-aggregate-put
+    put-requires
+    put-hexadecimal-requires
+    slice-aggregate-put-pair
+    slice-aggregate-put-pair-2
+    put-pair-requires
+    same-length
+    returns)
