@@ -89,7 +89,7 @@ fn in_room(fd: i32, kind: u32, lengths: &[u32; 4], score: Score) -> Score {
     )
 }
 
-// The triangles come first in both.
+// The triangles come first in both; in a walk the tree comes next.
 fn in_lists(
     fd: i32,
     kind: u32,
@@ -105,7 +105,20 @@ fn in_lists(
     if kind == 1 {
         return score.with(build(fd, triangles, index, boxes, links));
     }
+    if !fill_tree(fd, index, boxes, links) {
+        return score.with(Check::Cut);
+    }
     walk(fd, triangles, index, boxes, links, score)
+}
+
+fn fill_tree(fd: i32, index: &mut [u32], boxes: &mut [f64], links: &mut [u32]) -> bool {
+    if !input::fill_words(fd, index) {
+        return false;
+    }
+    if !input::fill_numbers(fd, boxes) {
+        return false;
+    }
+    input::fill_words(fd, links)
 }
 
 fn size(x: u32) -> usize
@@ -130,24 +143,15 @@ fn build(
         .and(compare::same_words(fd, links))
 }
 
-// The rest of a walk's lists, then its rays, eight at most.
+// A walk's rays, eight at most.
 fn walk(
     fd: i32,
     triangles: &[f64],
-    index: &mut [u32],
-    boxes: &mut [f64],
-    links: &mut [u32],
+    index: &[u32],
+    boxes: &[f64],
+    links: &[u32],
     score: Score,
 ) -> Score {
-    if !input::fill_words(fd, index) {
-        return score.with(Check::Cut);
-    }
-    if !input::fill_numbers(fd, boxes) {
-        return score.with(Check::Cut);
-    }
-    if !input::fill_words(fd, links) {
-        return score.with(Check::Cut);
-    }
     let Word::Read(rays) = input::read_word(fd) else {
         return score.with(Check::Cut);
     };

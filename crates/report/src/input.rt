@@ -47,7 +47,11 @@ pub fn measure(input: &[u8]) -> Input
     if 200 < rays {
         return Input::Bad;
     }
-    if length != at + 4 + 48 * rays {
+    let whole = at + 4 + 48 * rays;
+    if length < whole {
+        return Input::Bad;
+    }
+    if whole < length {
         return Input::Bad;
     }
     Input::Good { triangles, rays }

@@ -6,3 +6,5 @@ pub mod Going
 pub mod Entrance
 pub mod Accepting
 pub mod NearestHit
+pub mod Sighting
+pub mod Straight

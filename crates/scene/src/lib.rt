@@ -4,10 +4,12 @@
 mod tally; // tally.rt: the counts and the hit so far
 mod pending; // pending.rt: the pending node numbers
 mod node; // node.rt: a node of the lent lists
+mod aim; // aim.rt: the ray, prepared for the box tests
 mod leaf; // leaf.rt: a leaf's triangles
 mod step; // step.rt: one step
 
 use aabb::Ray;
+use aim::Aim;
 use pending::Pending;
 use step::Turn;
 use tally::Nearest;
@@ -65,6 +67,7 @@ fn run(triangles: &[f64], index: &[u32], boxes: &[f64], links: &[u32], ray: Ray)
     ensures { λ r. ⌜ told r ≡ run (lent (now (triangles .entry)) (now (index .entry)) (now (boxes .entry)) (now (links .entry))) ray (nodeCount (now (links .entry))) (0 ∷ []) start ⌝ }
 {
     let nodes = links.len() / 3;
+    let aim = Aim::of(ray);
     let mut pending = Pending::root();
     let mut a = Tally {
         boxes: 0,
@@ -80,7 +83,7 @@ fn run(triangles: &[f64], index: &[u32], boxes: &[f64], links: &[u32], ray: Ray)
                 at: i as u64,
             };
         }
-        match step::visit(triangles, index, boxes, links, ray, i, besides, a) {
+        match step::visit(triangles, index, boxes, links, aim, i, besides, a) {
             Turn::Refuse { number, at } => {
                 return Answer::Refused { number, at };
             }

@@ -1,10 +1,7 @@
 // A node of the lent lists: six f64 of box, three u32 of links.
 use aabb::Aabb;
-use aabb::Ray;
-use aabb::Span;
 ghost use mathlib.Core.Path.{_≡_};
 ghost use Prim.Native.Nat.{_<_};
-ghost use Rattle.aabb.specs.Slab.{passes};
 ghost use Rattle.scene.specs.Lent.{nodeCount, nodeAt, sound, leftOf, rightOf};
 
 pub struct Node {
@@ -46,16 +43,6 @@ impl Node {
             return false;
         }
         self.count == 0
-    }
-
-    // Whether the ray passes its box.
-    pub fn passed(self, ray: Ray) -> bool
-        ensures { λ r. ⌜ r ≡ passes ray (self .bounds) ⌝ }
-    {
-        match self.bounds.intersect_ray(ray) {
-            Span::Missed => false,
-            Span::Passed { enter: _, exit: _ } => true,
-        }
     }
 
     // The children of an internal node.

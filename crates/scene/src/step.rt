@@ -1,13 +1,14 @@
 // One step of the walk: a node is taken, judged, its box tested, and dropped or opened.
+use crate::aim::Aim;
 use crate::leaf;
 use crate::node::Node;
 use crate::tally::Tally;
-use aabb::Ray;
 ghost use mathlib.Core.Path.{_≡_};
 ghost use Prim.Native.Nat.{_<_, _≤_, _^_};
 ghost use Rattle.scene.specs.Lent.{lent, most-pending};
 ghost use Rattle.scene.specs.Walk.{openInternal, judged, visit};
 ghost use Rattle.scene.specs.State.{Ready};
+ghost use Rattle.scene.specs.Aim.{aimed};
 
 // What a step does with the pending node that it took, and the tally after it.
 pub enum Turn {
@@ -57,13 +58,13 @@ pub fn visit(
     index: &[u32],
     boxes: &[f64],
     links: &[u32],
-    ray: Ray,
+    aim: Aim,
     i: u32,
     besides: usize,
     a: Tally,
 ) -> Turn
-    requires { ⌜ Ready (now links) i besides a ⌝ }
-    ensures { λ r. ⌜ r ≡ visit (lent (now (triangles .entry)) (now (index .entry)) (now (boxes .entry)) (now (links .entry))) ray i besides a ⌝ }
+    requires { ⌜ Ready (now links) i besides a × (aim ≡ aimed (aim .ray)) ⌝ }
+    ensures { λ r. ⌜ r ≡ visit (lent (now (triangles .entry)) (now (index .entry)) (now (boxes .entry)) (now (links .entry))) (aim .ray) i besides a ⌝ }
 {
     let x = Node::read(boxes, links, i as usize);
     if !x.sound() {
@@ -73,11 +74,11 @@ pub fn visit(
         };
     }
     let counted = a.boxed();
-    if !x.passed(ray) {
+    if !aim.passes(x.bounds) {
         return Turn::Down(counted);
     }
     if x.kind == 1 {
-        return leaf::open(triangles, index, ray, i, x, counted);
+        return leaf::open(triangles, index, aim.ray, i, x, counted);
     }
     open_internal(links.len() / 3, i, x, besides, counted)
 }

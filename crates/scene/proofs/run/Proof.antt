@@ -5,25 +5,31 @@ use lib.ListN.{getD}
 use Rattle.scene.specs.Answer.{told}
 use native.Mathlib.Omega.{arith}
 use borrow.Author.Needs.{needs}
-use Rattle.scene.specs.Lent.{lent}
+use Rattle.aabb.specs.declared.vector.Ray.{Ray}
+use Rattle.scene.specs.Lent.{Lent, lent}
+use Rattle.scene.specs.Walk.{visit}
+use Rattle.scene.proofs.Sighting.{its-ray, its-own}
 use Rattle.scene.proofs.Going.{Going, begun, ended, spent, all-below, ready, stopped, down, down-less, open-room, opens, open-less}
 use Rattle.scene.proofs.run.Statement.{statement}
 use Rattle.scene.proofs.run.Tie as tie
 
 abbrev Inv-loop : tie.InvT-loop
-Inv-loop triangles index boxes links ray nodes pending₀ a₀ pending a = Going (lent triangles index boxes links) ray nodes pending a
+Inv-loop triangles index boxes links ray nodes aim pending₀ a₀ pending a = Going (lent triangles index boxes links) ray nodes pending a
 
 abbrev μ-loop : tie.MeasureT-loop
-μ-loop triangles index boxes links ray nodes pending₀ a₀ pending a = nodes - a .boxes
+μ-loop triangles index boxes links ray nodes aim pending₀ a₀ pending a = nodes - a .boxes
 
-small : (c : tie.At-loop Inv-loop μ-loop) (k : ℕ) → getD (c .before .before .before .before .before .before .args .links .now) k 0 < 2 ^ 32
-small c k = omega (arith, c .before .before .shared-slice-known4 .given k)
+small : (c : tie.At-loop Inv-loop μ-loop) (k : ℕ) → getD (c .before .before .before .before .before .before .before .args .links .now) k 0 < 2 ^ 32
+small c k = omega (arith, c .before .before .before .shared-slice-known4 .given k)
+
+of-requires : tie.Need-of-requires Inv-loop μ-loop
+of-requires c κs = search needs
 
 root-requires : tie.Need-root-requires Inv-loop μ-loop
 root-requires c κs = search needs
 
 loop-holds : tie.Need-loop-holds Inv-loop μ-loop
-loop-holds c = let S = c .before .before .before .before .before in begun _ _ _ (S .pre .0) (S .pre .1) (c .root .ensures .0) (c .root .ensures .1)
+loop-holds c = let S = c .before .before .before .before .before .before in begun _ _ _ (S .pre .0) (S .pre .1) (c .root .ensures .0) (c .root .ensures .1)
 
 sub-besides : tie.Need-sub-besides Inv-loop μ-loop
 sub-besides c = search needs
@@ -34,15 +40,28 @@ mul-i c = let m = c .before .loop .inv .room in omega arith
 element-copy-out-i : tie.Need-element-copy-out-i Inv-loop μ-loop
 element-copy-out-i c = let m = c .before .loop .inv .room in omega arith
 
-cast-t25 : tie.Need-cast-t25 Inv-loop μ-loop
-cast-t25 c = let l = c .before .before .before .loop in omega (arith, all-below _ _ _ (l .pending) (l .a) (l .inv) (omega arith) .0, l .inv .few)
+cast-t26 : tie.Need-cast-t26 Inv-loop μ-loop
+cast-t26 c = let l = c .before .before .before .loop in omega (arith, all-below _ _ _ (l .pending) (l .a) (l .inv) (omega arith) .0, l .inv .few)
+
+-- what `visit` ensures, of the ray itself
+abbrev lists : tie.At-loop Inv-loop μ-loop → Lent
+lists c = let A = c .before .before .before .before .before .before .before .args in lent (A .triangles .now) (A .index .now) (A .boxes .now) (A .links .now)
+
+seen : (v : tie.After-visit Inv-loop μ-loop)
+    → let L = v .before .before .before .before in v .visit .result ≡ visit (lists L) (L .before .before .before .before .before .before .before .args .ray) (getD (L .loop .pending .nodes) (L .loop .pending .len - 1) 0) (L .loop .pending .len - 1) (L .loop .a)
+seen v =
+    let L = v .before .before .before .before in
+    v .visit .ensures ∙ ap (λ (r : Ray). visit (lists L) r (getD (L .loop .pending .nodes) (L .loop .pending .len - 1) 0) (L .loop .pending .len - 1) (L .loop .a)) (its-ray _ _ (L .before .before .of .ensures))
 
 returns : tie.Need-returns Inv-loop μ-loop
 unfolding told
 returns c = let l = c .before .before .before .loop in spent _ _ _ (l .pending) (l .a) (l .inv) (omega arith) (c .if1 .taken)
 
 visit-requires : tie.Need-visit-requires Inv-loop μ-loop
-visit-requires c κs = let l = c .before .before .before .loop in ready _ _ _ (l .pending) (l .a) (l .inv) (omega arith) (c .if1 .left)
+visit-requires c κs =
+    let L = c .before .before .before in
+    let l = L .loop in
+    (ready _ _ _ (l .pending) (l .a) (l .inv) (omega arith) (c .if1 .left), its-own _ _ (L .before .before .of .ensures))
 
 enum-known-number : tie.Need-enum-known-number Inv-loop μ-loop
 enum-known-number c = search needs
@@ -53,7 +72,7 @@ returns-2 c =
     let v = c .before .before .before in
     let L = v .before .before .before .before in
     let l = L .loop in
-    stopped _ _ _ (l .pending) (l .a) (l .inv) (v .before .before .before .loop-test .taken) (v .before .if1 .left) (v .visit .result) (v .visit .ensures) _ _ (c .before .number .given .1)
+    stopped _ _ _ (l .pending) (l .a) (l .inv) (v .before .before .before .loop-test .taken) (v .before .if1 .left) (v .visit .result) (seen v) _ _ (c .before .number .given .1)
 
 enum-known-next : tie.Need-enum-known-next Inv-loop μ-loop
 enum-known-next c = search needs
@@ -66,14 +85,14 @@ loop-less c =
     let v = c .before .before .before .before in
     let L = v .before .before .before .before in
     let l = L .loop in
-    omega (arith, v .before .if1 .left, down-less _ _ _ (l .pending) (l .a) (l .inv) (v .before .before .before .loop-test .taken) (v .before .if1 .left) (v .visit .result) (v .visit .ensures) (small L) _ (c .before .before .next .given .1))
+    omega (arith, v .before .if1 .left, down-less _ _ _ (l .pending) (l .a) (l .inv) (v .before .before .before .loop-test .taken) (v .before .if1 .left) (v .visit .result) (seen v) (small L) _ (c .before .before .next .given .1))
 
 loop-again : tie.Need-loop-again Inv-loop μ-loop
 loop-again c =
     let v = c .before .before .before .before in
     let L = v .before .before .before .before in
     let l = L .loop in
-    down _ _ _ (l .pending) (l .a) (l .inv) (v .before .before .before .loop-test .taken) (v .before .if1 .left) (v .visit .result) (v .visit .ensures) (small L) (c .dropped .result) _ (c .before .before .next .given .1) (c .dropped .ensures .0) (c .dropped .ensures .1)
+    down _ _ _ (l .pending) (l .a) (l .inv) (v .before .before .before .loop-test .taken) (v .before .if1 .left) (v .visit .result) (seen v) (small L) (c .dropped .result) _ (c .before .before .next .given .1) (c .dropped .ensures .0) (c .dropped .ensures .1)
 
 enum-known-left : tie.Need-enum-known-left Inv-loop μ-loop
 enum-known-left c = search needs
@@ -83,21 +102,21 @@ opened-requires c κs =
     let v = c .before .before .before in
     let L = v .before .before .before .before in
     let l = L .loop in
-    open-room _ _ _ (l .pending) (l .a) (l .inv) (v .before .before .before .loop-test .taken) (v .before .if1 .left) (v .visit .result) (v .visit .ensures) (small L) _ _ _ (c .before .left .given .1)
+    open-room _ _ _ (l .pending) (l .a) (l .inv) (v .before .before .before .loop-test .taken) (v .before .if1 .left) (v .visit .result) (seen v) (small L) _ _ _ (c .before .left .given .1)
 
 loop-less-2 : tie.Need-loop-less-2 Inv-loop μ-loop
 loop-less-2 c =
     let v = c .before .before .before .before in
     let L = v .before .before .before .before in
     let l = L .loop in
-    omega (arith, v .before .if1 .left, open-less _ _ _ (l .pending) (l .a) (l .inv) (v .before .before .before .loop-test .taken) (v .before .if1 .left) (v .visit .result) (v .visit .ensures) (small L) _ _ _ (c .before .before .left .given .1))
+    omega (arith, v .before .if1 .left, open-less _ _ _ (l .pending) (l .a) (l .inv) (v .before .before .before .loop-test .taken) (v .before .if1 .left) (v .visit .result) (seen v) (small L) _ _ _ (c .before .before .left .given .1))
 
 loop-again-2 : tie.Need-loop-again-2 Inv-loop μ-loop
 loop-again-2 c =
     let v = c .before .before .before .before in
     let L = v .before .before .before .before in
     let l = L .loop in
-    opens _ _ _ (l .pending) (l .a) (l .inv) (v .before .before .before .loop-test .taken) (v .before .if1 .left) (v .visit .result) (v .visit .ensures) (small L) (c .opened .result) _ _ _ (c .before .before .left .given .1) (c .opened .ensures .0) (c .opened .ensures .1)
+    opens _ _ _ (l .pending) (l .a) (l .inv) (v .before .before .before .loop-test .taken) (v .before .if1 .left) (v .visit .result) (seen v) (small L) (c .opened .result) _ _ _ (c .before .before .left .given .1) (c .opened .ensures .0) (c .opened .ensures .1)
 
 over-requires : tie.Need-over-requires Inv-loop μ-loop
 over-requires c κs = search needs
@@ -111,12 +130,13 @@ run-spec =
     (tie.spec
     Inv-loop
     μ-loop
+    of-requires
     root-requires
     loop-holds
     sub-besides
     mul-i
     element-copy-out-i
-    cast-t25
+    cast-t26
     returns
     visit-requires
     enum-known-number

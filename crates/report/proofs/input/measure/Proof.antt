@@ -33,20 +33,25 @@ word-requires-2 c κs = search needs
 returns-4 : tie.Need-returns-4
 returns-4 c = over-rays _ _ (c .before .before .before .before .word .ensures .0) _ (c .before .word2 .ensures .0) (c .if4 .taken)
 
-add-if5 : tie.Need-add-if5
-add-if5 c = search needs
+add-whole : tie.Need-add-whole
+add-whole c = search needs
 
-mul-if5 : tie.Need-mul-if5
-mul-if5 c = search needs
+mul-whole : tie.Need-mul-whole
+mul-whole c = search needs
 
-add-if5-2 : tie.Need-add-if5-2
-add-if5-2 c = search needs
+add-whole-2 : tie.Need-add-whole-2
+add-whole-2 c = search needs
 
 returns-5 : tie.Need-returns-5
-returns-5 c = misfit _ _ (c .before .before .before .before .before .word .ensures .0) _ (c .before .before .word2 .ensures .0) (c .if5 .taken)
+returns-5 c = misfit _ _ (c .before .before .before .before .before .word .ensures .0) _ (c .before .before .word2 .ensures .0) (λ e. omega (arith, e, c .if5 .taken))
 
 returns-6 : tie.Need-returns-6
-returns-6 c = good _ _ (c .before .before .before .before .before .word .ensures .0) _ (c .before .before .word2 .ensures .0) (c .before .before .before .before .if2 .left) (c .before .if4 .left) (c .if5 .left)
+returns-6 c = misfit _ _ (c .before .before .before .before .before .before .word .ensures .0) _ (c .before .before .before .word2 .ensures .0) (λ e. omega (arith, e, c .if6 .taken))
+
+returns-7 : tie.Need-returns-7
+returns-7 c =
+    let d = c .before .before .before in
+    good _ _ (d .before .before .before .word .ensures .0) _ (d .word2 .ensures .0) (d .before .before .if2 .left) (c .before .before .if4 .left) (omega (arith, c .before .if5 .left, c .if6 .left))
 
 pub measure-spec : {M : Type 1} → statement M
 measure-spec =
@@ -61,8 +66,9 @@ measure-spec =
     returns-3
     word-requires-2
     returns-4
-    add-if5
-    mul-if5
-    add-if5-2
+    add-whole
+    mul-whole
+    add-whole-2
     returns-5
-    returns-6)
+    returns-6
+    returns-7)

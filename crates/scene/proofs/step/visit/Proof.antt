@@ -36,17 +36,17 @@ returns c =
 boxed-requires : tie.Need-boxed-requires
 boxed-requires c κs = search needs
 
-passed-requires : tie.Need-passed-requires
-passed-requires c κs = search needs
+passes-requires : tie.Need-passes-requires
+passes-requires c κs = search needs
 
 returns-2 : tie.Need-returns-2
 returns-2 c =
     let f = c .before .before .before in
     let k = f .before .before in
-    ap Down (c .before .before .boxed .ensures) ∙ outside (given k) _ _ _ _ (k .read .result) (k .read .ensures) (sound-node (f .before) (f .if1 .left)) (sym (c .before .passed .ensures) ∙ not-true _ (c .if2 .taken))
+    ap Down (c .before .before .boxed .ensures) ∙ outside (given k) _ _ _ _ (k .read .result) (k .read .ensures) (sound-node (f .before) (f .if1 .left)) (sym (c .before .passes .ensures) ∙ not-true _ (c .if2 .taken))
 
 open-requires : tie.Need-open-requires
-open-requires c κs = still-few (c .before .before .before .before) (c .before .before .before .before .before .before .before .before .before .before .before .before .pre .triangles)
+open-requires c κs = still-few (c .before .before .before .before) (c .before .before .before .before .before .before .before .before .before .before .before .before .pre .0 .triangles)
 
 returns-3 : tie.Need-returns-3
 returns-3 c =
@@ -54,7 +54,7 @@ returns-3 c =
     let f = d .before .before .before in
     let k = f .before .before in
     let A = k .before .before .before .before .before .args in
-    c .open .ensures ∙ ap (λ (a : Tally). openLeaf (A .triangles .now) (A .index .now) (A .ray) (A .i) (k .read .result) a) (d .before .before .boxed .ensures) ∙ at-leaf (given k) _ _ _ _ (k .read .result) (k .read .ensures) (sound-node (f .before) (f .if1 .left)) (sym (d .before .passed .ensures) ∙ not-false _ (d .if2 .left)) (c .before .if3 .taken)
+    c .open .ensures ∙ ap (λ (a : Tally). openLeaf (A .triangles .now) (A .index .now) (A .aim .ray) (A .i) (k .read .result) a) (d .before .before .boxed .ensures) ∙ at-leaf (given k) _ _ _ _ (k .read .result) (k .read .ensures) (sound-node (f .before) (f .if1 .left)) (sym (d .before .passes .ensures) ∙ not-false _ (d .if2 .left)) (c .before .if3 .taken)
 
 open-internal-requires : tie.Need-open-internal-requires
 open-internal-requires c κs = search needs
@@ -65,7 +65,7 @@ returns-4 c =
     let f = d .before .before .before in
     let k = f .before .before in
     let A = k .before .before .before .before .before .args in
-    c .open-internal .ensures ∙ ap (λ (a : Tally). openInternal (nodeCount (A .links .now)) (A .i) (k .read .result) (A .besides) a) (d .before .before .boxed .ensures) ∙ at-internal (given k) _ _ _ _ (k .read .result) (k .read .ensures) (sound-node (f .before) (f .if1 .left)) (sym (d .before .passed .ensures) ∙ not-false _ (d .if2 .left)) (c .before .if3 .left)
+    c .open-internal .ensures ∙ ap (λ (a : Tally). openInternal (nodeCount (A .links .now)) (A .i) (k .read .result) (A .besides) a) (d .before .before .boxed .ensures) ∙ at-internal (given k) _ _ _ _ (k .read .result) (k .read .ensures) (sound-node (f .before) (f .if1 .left)) (sym (d .before .passes .ensures) ∙ not-false _ (d .if2 .left)) (c .before .if3 .left)
 
 pub visit-spec : {M : Type 1} → statement M
 visit-spec =
@@ -75,7 +75,7 @@ visit-spec =
     sound-requires
     returns
     boxed-requires
-    passed-requires
+    passes-requires
     returns-2
     open-requires
     returns-3
