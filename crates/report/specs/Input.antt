@@ -19,6 +19,9 @@ trianglesAt = 4
 abbrev pub countAt : ℕ → ℕ
 countAt n = 4 + 96 * n
 
+abbrev pub raysAt : ℕ → ℕ
+raysAt n = 8 + 96 * n
+
 -- how long an input with n triangles and m rays of six numbers each is
 abbrev pub wholeLength : ℕ → ℕ → ℕ
 wholeLength n m = countAt n + 4 + 48 * m

@@ -12,7 +12,7 @@ use Rattle.scene.specs.Walk.{walk}
 use Rattle.report.specs.declared.input.Input.{Input}
 use Rattle.report.specs.declared.input.Input.the-variants.{Good, Bad}
 use Rattle.report.specs.Little.{numbers, rayOf}
-use Rattle.report.specs.Input.{measured}
+use Rattle.report.specs.Input.{trianglesAt, raysAt, measured}
 use Rattle.report.specs.Lines.{badInput, buildRefusedLine, builtLine, rayLine}
 
 -- one line a ray: those of the first k, of rays that stand in the input from a place on, six numbers each
@@ -28,18 +28,18 @@ handed mesh n nodes o = lent mesh (take n (o .index)) (take (nodes * 6) (o .boxe
 unfoldable pub builtOf : List Float → Outcome
 builtOf mesh = built mesh (replicate 200 0) (replicate 2394 nought) (replicate 1197 0)
 
--- A refused build: its line alone; else the counts, and the lines of the m rays, which stand after both counts and the triangles
+-- A refused build: its line alone; else the counts, and one line for each of the m rays
 unfoldable pub reportOf : List ℕ → List Float → ℕ → ℕ → Outcome → Built → List ℕ
 reportOf s mesh n m o (Refused k i) = buildRefusedLine k i
-reportOf s mesh n m o (Tree nodes leaves) = builtLine nodes leaves ++ rayLines s (8 + 96 * n) (handed mesh n nodes o) m
+reportOf s mesh n m o (Tree nodes leaves) = builtLine nodes leaves ++ rayLines s (raysAt n) (handed mesh n nodes o) m
 
 unfoldable pub reported : List ℕ → List Float → ℕ → ℕ → List ℕ
 reported s mesh n m = reportOf s mesh n m (builtOf mesh) (builtOf mesh .answer)
 
--- the input is measured whole first; the triangles stand after the first count, twelve numbers each
+-- the input is measured whole first: cut input with a bad triangle is `bad input`
 unfoldable pub surveyedAs : List ℕ → Input → List ℕ
 surveyedAs s Bad = badInput
-surveyedAs s (Good n m) = reported s (numbers s 4 (n * 12)) n m
+surveyedAs s (Good n m) = reported s (numbers s trianglesAt (n * 12)) n m
 
 unfoldable pub surveyed : List ℕ → List ℕ
 surveyed s = surveyedAs s (measured s)
