@@ -3,12 +3,15 @@ use mathlib.Core.Path.{_≡_, refl, sym, ap, _∙_}
 use Prim.Native.Nat.{ℕ, zero, suc, _+_, _-_, _*_, _/_, _≤_, _<_, min}
 use native.Mathlib.Nat.{add-assoc, add-zero, mul-zero, mul-le-mul-right, div-mul-le-self, lt-div-mul-add}
 use native.Mathlib.Omega.{arith, min-cases}
-use mathlib.Core.Bool.{Bool, true, false, _&&_, _||_, cond}
+use mathlib.Core.Bool.{Bool, true, false, not, _&&_, _||_, cond}
 use mathlib.Core.List.{List}
+use lib.Dec.{T}
+use lib.IntN.{ℤ}
 use lib.ListN.{length, getD, List·getD-eq-default}
-use lib.Ieee.{Float, nan, binary64, ofBits, add, sub, mul, div, neg, lt, le}
+use lib.Ieee.{Float, nan, inf, fin, binary64, ofBits, add, sub, mul, div, neg, lt, le}
 use Rattle.order.specs.Number.{nought, one, two, trillionth, infinity}
 use Rattle.order.specs.Pick.{magnitude}
+use Rattle.order.proofs.Order.{under→le, le-trans}
 use Rattle.order.proofs.Total.{and-go, and-no}
 use Rattle.aabb.specs.declared.vector.Vec3.{Vec3}
 use Rattle.aabb.specs.declared.bounds.Aabb.{Aabb}
@@ -27,9 +30,38 @@ pub or-next : (a b t : Bool) → a ≡ false → t ≡ b → t ≡ (a || b)
 or-next a b t p q = rw p q
 
 -- ---- vectors
-pub tested : (m x limit : Float) (t : Bool) → m ≡ magnitude x → le m limit ≡ t → within limit x ≡ t
+-- a magnitude is at most a limit where the number and its opposite are
+both : (a b : Bool) → (T a → T b) → a ≡ (a && b)
+both true true f = refl
+both true false f = absurd (f tt)
+both false b f = refl
+
+both-turned : (a b : Bool) → (T b → T a) → b ≡ (a && b)
+both-turned true b f = refl
+both-turned false true f = absurd (f tt)
+both-turned false false f = refl
+
+below : (m : ℕ) (e : ℤ) → T (le (fin true m e) (fin false m e))
+below m e = under→le (fin true m e) (fin false m e) tt tt (omega arith)
+
+infinities : T (le (inf true) (inf false))
+infinities = unfold le in tt
+
+sides : (x l : Float) → le (magnitude x) l ≡ (le x l && le (neg x) l)
+unfolding neg
+sides nan l = unfold le in refl
+sides (inf true) l = both-turned (le (inf true) l) (le (inf false) l) (le-trans (inf true) (inf false) l infinities)
+sides (inf false) l = both (le (inf false) l) (le (inf true) l) (le-trans (inf true) (inf false) l infinities)
+sides (fin true m e) l = both-turned (le (fin true m e) l) (le (fin false m e) l) (le-trans (fin true m e) (fin false m e) l (below m e))
+sides (fin false m e) l = both (le (fin false m e) l) (le (fin true m e) l) (le-trans (fin true m e) (fin false m e) l (below m e))
+
+pub side-over : (x l : Float) → le x l ≡ false → false ≡ within l x
 unfolding within
-tested m x limit t p q = rw (← p) q
+side-over x l h = rw (sides x l, h)
+
+pub side-within : (x l : Float) → le x l ≡ true → le (neg x) l ≡ within l x
+unfolding within
+side-within x l h = rw (sides x l, h)
 
 pub along-rest : (axis : ℕ) (a : Vec3) → (axis ≡ 0 → ⊥) → (axis ≡ 1 → ⊥) → a .z ≡ along axis a
 unfolding along

@@ -2,7 +2,7 @@
 ghost use mathlib.Core.Path.{_≡_};
 ghost use Prim.Native.Nat.{_*_, min};
 ghost use lib.ListN.{length};
-ghost use Rattle.aabb.specs.Vector.{plus, minus, negated, scaled, divided, dot, cross, least, greatest, along, allWithin, allAtMost, allEqual, vectorAt, pointAt, admittedRay, numberAt};
+ghost use Rattle.aabb.specs.Vector.{plus, minus, negated, scaled, divided, dot, cross, least, greatest, along, within, allWithin, allAtMost, allEqual, vectorAt, pointAt, admittedRay, numberAt};
 
 pub struct Vec3 {
     pub x: f64,
@@ -121,9 +121,9 @@ impl Vec3 {
     pub fn within(self, limit: f64) -> bool
         ensures { λ r. ⌜ r ≡ allWithin limit self ⌝ }
     {
-        if order::magnitude(self.x) <= limit {
-            if order::magnitude(self.y) <= limit {
-                return order::magnitude(self.z) <= limit;
+        if limited(self.x, limit) {
+            if limited(self.y, limit) {
+                return limited(self.z, limit);
             }
             return false;
         }
@@ -180,6 +180,16 @@ impl Vec3 {
             z: none,
         }
     }
+}
+
+// Whether x is a number of magnitude at most the limit: it and its opposite are.
+fn limited(x: f64, limit: f64) -> bool
+    ensures { λ r. ⌜ r ≡ within limit x ⌝ }
+{
+    if x <= limit {
+        return -x <= limit;
+    }
+    false
 }
 
 // The number at a place of a lent slice, or a NaN beyond its end.

@@ -40,8 +40,14 @@ same-both bs bs′ bs″ ls ls′ ls″ i s t = record { box = t .box ∙ s .box
 box-numbers : (bs bs′ : List Float) (i : ℕ) → ((k : ℕ) → i * 6 ≤ k → k < i * 6 + 6 → getD bs′ k nan ≡ getD bs k nan) → boxAt bs′ i ≡ boxAt bs i
 unfolding boxAt vectorAt
 box-numbers bs bs′ i f =
-    rw (f (i * 6) (omega arith) (omega arith), f (i * 6 + 1) (omega arith) (omega arith), f (i * 6 + 2) (omega arith) (omega arith),
-    f (i * 6 + 3) (omega arith) (omega arith), f (i * 6 + 3 + 1) (omega arith) (omega arith), f (i * 6 + 3 + 2) (omega arith) (omega arith))
+    rw (
+      f (i * 6) (omega arith) (omega arith),
+      f (i * 6 + 1) (omega arith) (omega arith),
+      f (i * 6 + 2) (omega arith) (omega arith),
+      f (i * 6 + 3) (omega arith) (omega arith),
+      f (i * 6 + 3 + 1) (omega arith) (omega arith),
+      f (i * 6 + 3 + 2) (omega arith) (omega arith),
+    )
 
 pub same-numbers : (bs bs′ : List Float) (ls ls′ : List ℕ) (i : ℕ) → ((k : ℕ) → i * 6 ≤ k → k < i * 6 + 6 → getD bs′ k nan ≡ getD bs k nan) → ((k : ℕ) → i * 3 ≤ k → k < i * 3 + 3 → getD ls′ k 0 ≡ getD ls k 0)
     → SameAt bs bs′ ls ls′ i
@@ -277,8 +283,7 @@ held index bs ls (leaf b f c) node next a z (at-leaf n) w h k =
     record { box-is = n .box-is; first-is = n .first-is; count-is = n .count-is; kind-is = n .kind-is; inside = omega arith }
 held index bs ls (fork b l r) node next a z (at-fork n p q) w h k =
     let e = n .first-is in
-    let v = runs-up (w .0) z r (w .2) in
-    (
+    let v = runs-up (w .0) z r (w .2) in (
       record { box-is = n .box-is; count-is = n .count-is; kind-is = n .kind-is; children = omega arith },
       subst⁻¹ (λ (i : ℕ). Holds index bs ls i l) e (held index bs ls l next (next + 2) a (w .0) p (w .1) (omega arith) (omega arith)),
       subst⁻¹ (λ (i : ℕ). Holds index bs ls (i + 1) r) e (held index bs ls r (next + 1) (next + 2 + below l) (w .0) z q (w .2) h (omega arith)),

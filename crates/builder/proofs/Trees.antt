@@ -163,8 +163,7 @@ module _ (m : List Float) (d f : ℕ) (ids xs : List ℕ) (k : ℕ) (l r : Grown
       let x = c .low in
       let y = c .high in
       let hl : 0 < length (take k xs) = omega arith in
-      let hr : 0 < length (drop k xs) = omega arith in
-      (
+      let hr : 0 < length (drop k xs) = omega arith in (
         node-bounded m ids h A,
         half-in (take k xs) (l .tree) A left-in hl (p .box-is),
         half-in (drop k xs) (r .tree) A right-in hr (q .box-is),

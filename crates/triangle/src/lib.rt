@@ -5,6 +5,9 @@ use aabb::Aabb;
 use aabb::Ray;
 use aabb::Vec3;
 ghost use mathlib.Core.Path.{_≡_};
+ghost use Prim.Native.Nat.{_+_, _≤_};
+ghost use lib.ListN.{length};
+ghost use Rattle.aabb.specs.Vector.{vectorAt};
 ghost use Rattle.triangle.specs.Mesh.{triangleAt, boundsOf, centroidOf, admittedTriangle};
 ghost use Rattle.triangle.specs.Meeting.{distance, hitAt, strike};
 
@@ -41,6 +44,14 @@ impl Triangle {
     pub fn read(mesh: &[f64], i: usize) -> Triangle
         ensures { λ r. ⌜ r ≡ triangleAt (now (mesh .entry)) i ⌝ }
     {
+        if i < mesh.len() / 12 {
+            let at = i * 12;
+            let v0 = three(mesh, at);
+            let v1 = three(mesh, at + 3);
+            let v2 = three(mesh, at + 6);
+            let normal = three(mesh, at + 9);
+            return Triangle { v0, v1, v2, normal };
+        }
         let at = aabb::vector::place(mesh, i, 12);
         let v0 = Vec3::read(mesh, at);
         let v1 = Vec3::read(mesh, at + 3);
@@ -147,5 +158,17 @@ impl Triangle {
             Distance::None => Found::Nothing,
             Distance::To(t) => Found::At(self.hit(ray, t, number)),
         }
+    }
+}
+
+// Three numbers of a mesh that are there: one test of a triangle's place does for all twelve.
+fn three(mesh: &[f64], at: usize) -> Vec3
+    requires { ⌜ at + 3 ≤ length (now mesh) ⌝ }
+    ensures { λ r. ⌜ r ≡ vectorAt (now (mesh .entry)) at ⌝ }
+{
+    Vec3 {
+        x: mesh[at],
+        y: mesh[at + 1],
+        z: mesh[at + 2],
     }
 }
