@@ -1,28 +1,23 @@
 -- Laws of the choice of a split. Assumes nothing.
-use mathlib.Core.Path.{_≡_, refl, sym, _∙_, ap, subst, subst⁻¹}
-use Prim.Native.Nat.{ℕ, zero, suc, _+_, _*_, _-_, _≤_, _<_}
+use mathlib.Core.Path.{_≡_, refl, sym, _∙_, ap}
+use Prim.Native.Nat.{ℕ, _+_, _≤_, _<_}
 use native.Mathlib.Omega.{arith}
 use native.Mathlib.Numerals.{add-one}
-use mathlib.Core.Bool.{Bool, true, false, cond}
+use mathlib.Core.Bool.{true, false}
 use mathlib.Core.List.{List, [], _∷_}
-use lib.ListN.{length, getD, set, drop, replicate, length-set, length-drop, drop-of-length-le}
-use lib.Seq.{drop-cons, getD-set-same, getD-set-other}
-use lib.Ieee.{Float, le, lt, add, mul, sub, div, ofInt, ofBits, binary64}
-use lib.Dec.{leb, eqb}
+use lib.ListN.{length, getD, drop, replicate, length-drop}
+use lib.Seq.{drop-cons}
+use lib.Ieee.{Float, add, sub, mul, div, lt, le, ofInt, ofBits, binary64}
 use borrow.Author.Tests.{eq-eqb, ne-eqb, le-leb, lt-leb}
-use native.Mathlib.Decide.{ℕ-discrete}
-use mathlib.Core.Logic.{_⊎_, inl, inr, ⊎-elim}
-use mathlib.Core.Bool.{_||_}
-use Rattle.order.specs.Number.{nought, one, one-and-half, sixteen, millionth, trillionth}
-use Rattle.aabb.specs.declared.bounds.Aabb.{Aabb}
-use Rattle.aabb.specs.Vector.{along}
+use Rattle.order.specs.Number.{millionth, nought, one, one-and-half, sixteen, trillionth}
 use Rattle.aabb.specs.Bounds.{area}
+use Rattle.aabb.specs.Vector.{along}
+use Rattle.aabb.specs.declared.bounds.Aabb.{Aabb}
 use Rattle.builder.specs.declared.bins.Bin.{Bin}
 use Rattle.builder.specs.declared.split.Best.{Best}
-use Rattle.builder.specs.declared.split.SplitDecision.{SplitDecision}
-use Rattle.builder.specs.declared.split.SplitDecision.the-variants.{Split, MakeLeaf}
-use Rattle.builder.specs.Bins.{whole, noBin, blank, joinBins, filled, suffixOf}
-use Rattle.builder.specs.Choice.{weight, costOf, betterOf, sweepFrom, tryAxis, leafCost, chosen, bestSplit}
+use Rattle.builder.specs.declared.split.SplitDecision.the-variants.{MakeLeaf, Split}
+use Rattle.builder.specs.Bins.{blank, filled, joinBins, noBin, suffixOf, whole}
+use Rattle.builder.specs.Choice.{bestSplit, betterOf, chosen, costOf, leafCost, sweepFrom, tryAxis}
 
 -- ---- the sweep
 module _ (axis : ℕ) (lo width parent : Float) where

@@ -1,25 +1,21 @@
 -- Laws of the bins: the loops that find one, fill them and join them. Assumes nothing.
-use mathlib.Core.Path.{_≡_, refl, sym, _∙_, ap, subst, subst⁻¹}
-use Prim.Native.Nat.{ℕ, zero, suc, _+_, _*_, _-_, _≤_, _<_}
+use mathlib.Core.Path.{_≡_, refl, sym, _∙_, ap}
+use Prim.Native.Nat.{ℕ, zero, suc, _+_, _-_, _≤_, _<_}
 use native.Mathlib.Omega.{arith}
 use native.Mathlib.Numerals.{add-one}
-use mathlib.Core.Bool.{Bool, true, false, cond}
-use mathlib.Core.List.{List, [], _∷_}
-use lib.ListN.{length, getD, set, drop, replicate, length-set, length-drop, drop-of-length-le}
-use lib.Seq.{drop-cons, getD-set-same, getD-set-other}
-use lib.Ieee.{Float, neg, le, lt, add, mul, sub, div, binary64}
-use lib.Dec.{leb, eqb}
-use borrow.Author.Tests.{eq-eqb, ne-eqb, le-leb, lt-leb}
 use native.Mathlib.Decide.{ℕ-discrete}
 use mathlib.Core.Logic.{_⊎_, inl, inr, ⊎-elim}
-use mathlib.Core.Bool.{_||_}
-use Rattle.aabb.specs.declared.bounds.Aabb.{Aabb}
-use Rattle.triangle.specs.declared.Triangle.{Triangle}
+use mathlib.Core.Bool.{Bool, true, false, cond}
+use mathlib.Core.List.{List, [], _∷_}
+use lib.ListN.{length, getD, set, drop, replicate, drop-of-length-le}
+use lib.Seq.{drop-cons, getD-set-same, getD-set-other}
+use lib.Ieee.{Float, sub, mul, le, binary64}
 use Rattle.aabb.specs.Vector.{along}
-use Rattle.aabb.specs.Bounds.{union}
-use Rattle.triangle.specs.Mesh.{triangleAt, boundsOf, centroidOf, boundsAt, centroidAt}
+use Rattle.aabb.specs.declared.bounds.Aabb.{Aabb}
+use Rattle.triangle.specs.Mesh.{boundsAt, boundsOf, centroidAt, centroidOf, triangleAt}
+use Rattle.triangle.specs.declared.Triangle.{Triangle}
 use Rattle.builder.specs.declared.bins.Bin.{Bin}
-use Rattle.builder.specs.Bins.{whole, noBin, blank, AtMost, withBox, joinBins, binOf, place, filled, suffixOf}
+use Rattle.builder.specs.Bins.{AtMost, binOf, blank, filled, joinBins, noBin, place, suffixOf, whole, withBox}
 
 pub bin-stop : (k : ℕ) (x : Float) → 0 < k → le (whole k) x ≡ true → binOf k x ≡ k
 unfolding binOf

@@ -1,17 +1,16 @@
 -- Laws for the loops that check and fill, and for the room. Assumes nothing.
-use mathlib.Core.Path.{_≡_, refl, sym, _∙_, ap, subst, subst⁻¹}
+use mathlib.Core.Path.{_≡_, refl, sym, _∙_, ap}
 use Prim.Native.Nat.{ℕ, zero, suc, _+_, _*_, _-_, _≤_, _<_}
 use native.Mathlib.Omega.{arith}
 use native.Mathlib.Numerals.{add-one}
-use mathlib.Core.Bool.{Bool, true, false, _&&_}
+use mathlib.Core.Bool.{true, false}
 use mathlib.Core.List.{List, [], _∷_, _++_}
-use lib.ListN.{length, getD, take, set, replicate, replicate-append-replicate}
-use lib.Seq.{take-suc-set, take-all}
+use lib.ListN.{length, set, take, replicate, replicate-append-replicate}
+use lib.Seq.{take-all, take-suc-set}
 use lib.Ieee.{Float}
-use Rattle.triangle.specs.Mesh.{triangleAt, admittedTriangle}
-use Rattle.builder.specs.declared.start.Found.{Found}
+use Rattle.triangle.specs.Mesh.{admittedTriangle, triangleAt}
 use Rattle.builder.specs.declared.start.Found.the-variants.{At, Nothing}
-use Rattle.builder.specs.Build.{upTo, room, firstRefused}
+use Rattle.builder.specs.Build.{firstRefused, room, upTo}
 
 -- ---- the room
 pub room-none : (n : ℕ) → n ≡ 0 → 1 ≡ room n

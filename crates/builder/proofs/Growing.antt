@@ -4,28 +4,28 @@ use Prim.Native.Nat.{ℕ, zero, suc, _+_, _*_, _-_, _/_, _≤_, _<_}
 use native.Mathlib.Omega.{arith}
 use mathlib.Core.Bool.{Bool, true, false, cond, _||_}
 use mathlib.Core.Option.{Option, none, some}
-use mathlib.Core.List.{List, [], _∷_, _++_, append-nil}
-use lib.ListN.{length, getD, take, drop, length-take, length-drop, length-append, drop-of-length-le}
-use lib.Seq.{getD-take, getD-drop, length-take-le, take-all, take-at, drop-at}
-use borrow.Rule.Slice.PartMut.{midOf, postOf, putMid}
-use lib.Dec.{leb, eqb}
+use mathlib.Core.List.{List, _++_, append-nil}
+use lib.ListN.{length, take, drop, length-drop, length-append, drop-of-length-le}
+use lib.Seq.{length-take-le, take-all, take-at, drop-at}
+use lib.Dec.{eqb}
 use lib.Ieee.{Float}
-use borrow.Author.Tests.{eq-eqb, ne-eqb, eqb-false, le-leb, lt-leb}
+use borrow.Author.Tests.{eq-eqb, ne-eqb, eqb-false}
+use borrow.Rule.Slice.PartMut.{midOf, postOf, putMid}
 use Rattle.aabb.specs.declared.bounds.Aabb.{Aabb}
 use Rattle.triangle.specs.Mesh.{centroidAt}
-use Rattle.builder.specs.declared.split.SplitDecision.{SplitDecision}
-use Rattle.builder.specs.declared.split.SplitDecision.the-variants.{Split, MakeLeaf}
 use Rattle.builder.specs.declared.division.Made.{Made}
-use Rattle.builder.specs.declared.division.Made.the-variants.{Next, Deep}
-use Rattle.builder.specs.Range.{nodeBox, centroidBox}
+use Rattle.builder.specs.declared.division.Made.the-variants.{Deep, Next}
+use Rattle.builder.specs.declared.split.SplitDecision.{SplitDecision}
+use Rattle.builder.specs.declared.split.SplitDecision.the-variants.{MakeLeaf, Split}
 use Rattle.builder.specs.Choice.{bestSplit}
-use Rattle.builder.specs.Partition.{Parted, parts, parted}
-use Rattle.builder.specs.Fallback.{ahead, ordered, settled, separated}
-use Rattle.builder.specs.Tree.{Tree, leaf, fork, Grown, grownAs, joined, decision, leafOf, grow, below}
-use Rattle.builder.specs.Layout.{boxPut, linkPut, boxesOf, linksOf, Laid, Divided}
+use Rattle.builder.specs.Fallback.{ahead, ordered, separated, settled}
+use Rattle.builder.specs.Layout.{Divided, Laid, boxPut, boxesOf, linkPut, linksOf}
+use Rattle.builder.specs.Partition.{Parted, parted, parts}
+use Rattle.builder.specs.Range.{centroidBox, nodeBox}
+use Rattle.builder.specs.Tree.{Grown, below, decision, fork, grow, grownAs, joined, leaf, leafOf}
 use Rattle.builder.proofs.Linear.{linear-ahead}
+use Rattle.builder.proofs.Parting.{parted-at, parted-length}
 use Rattle.builder.proofs.Perm.{sorted-length}
-use Rattle.builder.proofs.Parting.{parted-length, parted-at}
 use Rattle.builder.proofs.Choosing.{splits-four as not-few}
 
 -- ---- the fallback order

@@ -1,18 +1,18 @@
 -- Laws of the heap. Assumes nothing.
-use mathlib.Core.Path.{_≡_, refl, sym, _∙_, ap, subst, subst⁻¹}
-use Prim.Native.Nat.{ℕ, zero, suc, _+_, _*_, _-_, _/_, _≤_, _<_}
+use mathlib.Core.Path.{_≡_, sym, _∙_, ap, subst⁻¹}
+use Prim.Native.Nat.{ℕ, zero, suc, _+_, _*_, _-_, _≤_, _<_}
 use native.Mathlib.Omega.{arith}
 use native.Mathlib.Decide.{ℕ-discrete, decLt}
 use mathlib.Core.Logic.{_⊎_, inl, inr, ⊎-elim}
 use mathlib.Core.Bool.{Bool, true, false}
-use mathlib.Core.List.{List, [], _∷_, _++_}
-use lib.ListN.{length, getD, set, take, drop, length-set, List·getD-append, length-append, length-drop, take-append-drop}
-use lib.Seq.{getD-set-same, getD-set-other, getD-take, getD-drop, getD-append-add, length-take-le}
+use mathlib.Core.List.{List, _++_}
+use lib.ListN.{length, getD, set, take, drop, length-set, length-drop, length-append, List·getD-append, take-append-drop}
+use lib.Seq.{getD-set-same, getD-set-other, getD-take, getD-drop, length-take-le, getD-append-add}
+use Rattle.builder.specs.Heap.{Greater, HeapFrom, Perm, occ, parent}
 use Rattle.builder.specs.Partition.{swapped}
-use Rattle.builder.specs.Heap.{hit, occ, Perm, parent, HeapFrom, Greater}
 use Rattle.builder.proofs.Linear.{Linear}
 use Rattle.builder.proofs.Parting.{length-swap}
-use Rattle.builder.proofs.Perm.{perm-swap, occ-append, each, each-perm, not-self}
+use Rattle.builder.proofs.Perm.{each-perm, not-self, occ-append, perm-swap}
 
 same? : (a b : ℕ) → (a ≡ b) ⊎ (a ≡ b → ⊥)
 same? a b = elim (ℕ-discrete a b) [ yes p ↦ inl p | no n ↦ inr n ]

@@ -1,15 +1,14 @@
 -- Laws of the partition's loop: its start, its two turns, its end, and what it keeps. Assumes nothing.
-use mathlib.Core.Path.{_≡_, refl, sym, _∙_, ap, subst, subst⁻¹}
-use Prim.Native.Nat.{ℕ, zero, suc, _+_, _*_, _-_, _≤_, _<_}
+use mathlib.Core.Path.{_≡_, refl, sym, _∙_, ap}
+use Prim.Native.Nat.{ℕ, zero, suc, _+_, _-_, _≤_, _<_}
 use native.Mathlib.Omega.{arith}
 use native.Mathlib.Numerals.{add-one}
 use mathlib.Core.Bool.{Bool, true, false}
-use mathlib.Core.List.{List, [], _∷_}
-use lib.ListN.{length, getD, set, drop, length-set, drop-of-length-le}
-use lib.Seq.{drop-cons}
+use mathlib.Core.List.{List}
+use lib.ListN.{length, getD, length-set}
 use lib.Ieee.{Float, lt}
 use Rattle.triangle.specs.Mesh.{centroidAt}
-use Rattle.builder.specs.Partition.{swapped, Parted, parts, moves, lower, parted}
+use Rattle.builder.specs.Partition.{Parted, lower, moves, parted, parts, swapped}
 
 -- ---- the box
 -- ---- an exchange

@@ -1,14 +1,14 @@
 -- What a tree's layout does not reach stays. Assumes nothing.
-use mathlib.Core.Path.{_≡_, refl, sym, _∙_, ap}
-use Prim.Native.Nat.{ℕ, zero, suc, _+_, _*_, _≤_, _<_}
+use mathlib.Core.Path.{_≡_, _∙_}
+use Prim.Native.Nat.{ℕ, _+_, _*_, _≤_, _<_}
 use native.Mathlib.Omega.{arith}
 use mathlib.Core.List.{List}
-use lib.ListN.{drop, set}
+use lib.ListN.{drop}
 use lib.Seq.{drop-set-lt}
 use lib.Ieee.{Float}
 use Rattle.aabb.specs.declared.bounds.Aabb.{Aabb}
-use Rattle.builder.specs.Tree.{Tree, leaf, fork, below}
-use Rattle.builder.specs.Layout.{boxPut, linkPut, boxesOf, linksOf}
+use Rattle.builder.specs.Layout.{boxPut, boxesOf, linkPut, linksOf}
+use Rattle.builder.specs.Tree.{Tree, below, fork, leaf}
 
 box-rest : (k : ℕ) (bs : List Float) (node : ℕ) (b : Aabb) → node * 6 + 6 ≤ k → drop k (boxPut bs node b) ≡ drop k bs
 unfolding boxPut

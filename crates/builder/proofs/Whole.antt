@@ -1,26 +1,24 @@
 -- Laws of the whole build. Assumes nothing.
-use mathlib.Core.Path.{_≡_, refl, sym, _∙_, ap, subst, subst⁻¹}
-use Prim.Native.Nat.{ℕ, zero, suc, _+_, _*_, _-_, _/_, _%_, _≤_, _<_}
+use mathlib.Core.Path.{_≡_, refl, sym, _∙_, ap}
+use Prim.Native.Nat.{ℕ, _+_, _*_, _-_, _/_, _%_, _≤_, _<_}
 use native.Mathlib.Omega.{arith}
-use mathlib.Core.Bool.{Bool, true, false, cond}
 use mathlib.Core.Option.{Option, none, some}
-use mathlib.Core.List.{List, [], _∷_, _++_}
-use lib.ListN.{length, take, drop, replicate, length-append, length-drop}
-use lib.Seq.{take-at, drop-at, length-take-le}
-use lib.Dec.{ltb, eqb}
+use mathlib.Core.List.{List, _++_}
+use lib.ListN.{length, take, drop, replicate, length-drop, length-append}
+use lib.Seq.{length-take-le, take-at, drop-at}
 use lib.Ieee.{Float}
 use borrow.Author.Tests.{eq-eqb, ne-eqb, le-ltb, lt-ltb}
-use borrow.Rule.Slice.PartMut.{midOf, postOf}
+use borrow.Rule.Slice.PartMut.{postOf}
 use Rattle.order.specs.Number.{nought}
+use Rattle.builder.specs.declared.Built.{Built}
+use Rattle.builder.specs.declared.Built.the-variants.{Refused, Tree as Grew}
+use Rattle.builder.specs.declared.division.Made.{Made}
+use Rattle.builder.specs.declared.division.Made.the-variants.{Deep, Next}
 use Rattle.builder.specs.declared.start.Found.{Found}
 use Rattle.builder.specs.declared.start.Found.the-variants.{At, Nothing}
-use Rattle.builder.specs.declared.division.Made.{Made}
-use Rattle.builder.specs.declared.division.Made.the-variants.{Next, Deep}
-use Rattle.builder.specs.declared.Built.{Built}
-use Rattle.builder.specs.declared.Built.the-variants.{Tree as Grew, Refused}
-use Rattle.builder.specs.Tree.{most-triangles, deepest, Tree, leaf, fork, Grown, grow, below, leaves}
-use Rattle.builder.specs.Layout.{boxesOf, linksOf, Laid, Divided}
-use Rattle.builder.specs.Build.{Outcome, outcome, upTo, room, firstRefused, cramped, finished, checked, built}
+use Rattle.builder.specs.Build.{Outcome, built, checked, cramped, finished, firstRefused, outcome, room, upTo}
+use Rattle.builder.specs.Layout.{Divided, boxesOf, linksOf}
+use Rattle.builder.specs.Tree.{Grown, Tree, below, deepest, fork, grow, leaf, leaves, most-triangles}
 
 -- ---- nodes and leaves
 pub twice-leaves : (t : Tree) → below t + 2 ≡ 2 * leaves t

@@ -2,7 +2,7 @@
 use Prim.Native.Nat.{_/_}
 use native.Mathlib.Omega.{arith}
 use lib.ListN.{length}
-use Rattle.builder.specs.Build.{outcome, room}
+use Rattle.builder.specs.Build.{outcome}
 use Rattle.builder.proofs.Fills.{room-is}
 use Rattle.builder.proofs.Whole.{built-1, built-2, built-3, built-4, built-4′, built-5, built-6}
 use borrow.Author.Needs.{needs}

@@ -1,3 +1,4 @@
+-- No k above the present one was at most x. Assumes nothing.
 use mathlib.Core.Path.{_≡_, refl, sym, _∙_}
 use Prim.Native.Nat.{_≤_}
 use native.Mathlib.Omega.{arith}
@@ -20,7 +21,9 @@ int-to-float-if1 : tie.Need-int-to-float-if1 Inv-loop μ-loop
 int-to-float-if1 c = search needs
 
 returns : tie.Need-returns Inv-loop μ-loop
-returns c = (sym (bin-stop (c .before .before .before .loop .k) (c .before .before .before .before .args .x) (c .before .before .loop-test .taken) (c .if1 .taken)) ∙ c .before .before .before .loop .inv .1, c .before .before .before .loop .inv .0)
+returns c =
+    let l = c .before .before .before .loop in
+    (sym (bin-stop (l .k) (c .before .before .before .before .args .x) (c .before .before .loop-test .taken) (c .if1 .taken)) ∙ l .inv .1, l .inv .0)
 
 sub-k : tie.Need-sub-k Inv-loop μ-loop
 sub-k c = search needs
@@ -29,7 +32,9 @@ loop-less : tie.Need-loop-less Inv-loop μ-loop
 loop-less c = search needs
 
 loop-again : tie.Need-loop-again Inv-loop μ-loop
-loop-again c = (omega arith, sym (bin-go (c .before .before .before .loop .k) (c .before .before .before .before .args .x) (c .before .before .loop-test .taken) (c .if1 .left)) ∙ c .before .before .before .loop .inv .1)
+loop-again c =
+    let l = c .before .before .before .loop in
+    (omega arith, sym (bin-go (l .k) (c .before .before .before .before .args .x) (c .before .before .loop-test .taken) (c .if1 .left)) ∙ l .inv .1)
 
 returns-2 : tie.Need-returns-2 Inv-loop μ-loop
 returns-2 c = (sym (bin-end (c .before .loop .k) (c .before .before .args .x) (c .loop-test .left)) ∙ c .before .loop .inv .1, omega arith)

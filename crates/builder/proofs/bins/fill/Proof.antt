@@ -2,7 +2,6 @@
 use mathlib.Core.Path.{_≡_, refl, sym, _∙_, ap}
 use Prim.Native.Nat.{_-_, _≤_, min}
 use native.Mathlib.Omega.{arith}
-use mathlib.Core.Option.{none}
 use lib.ListN.{length, drop, replicate, length-set}
 use Rattle.aabb.specs.Vector.{along}
 use Rattle.builder.specs.Bins.{AtMost, filled, noBin}

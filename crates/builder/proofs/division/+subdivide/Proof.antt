@@ -7,10 +7,7 @@ use lib.ListN.{length, length-drop}
 use lib.Seq.{length-take-le}
 use lib.Ieee.{le}
 use borrow.Rule.Slice.PartMut.{midOf, postOf, putMid}
-use Rattle.order.specs.Number.{half, one}
-use Rattle.aabb.specs.Slab.{first}
 use Rattle.builder.specs.Build.{room}
-use Rattle.builder.specs.Tree.{below, decision}
 use Rattle.builder.proofs.Growing.{Mid, both-halves, divided-both, divided-deep, divided-leaf, divided-left, halves-length, mid, second-half, then-room}
 use borrow.Author.Needs.{needs}
 use borrow.Fn.Kinds.{In}
@@ -36,7 +33,6 @@ abbrev subdivide-below : ℕ → In 4 subdivide-kinds.ps
 subdivide-below t =
     and 4 subdivide-kinds.ps (falls 4 subdivide-kinds.ps _<_ μ-subdivide t) subdivide.Pre
 
--- what the calls ask and teach
 abbrev calls : ℕ → subdivide-lts.Claims
 calls t = (
   around-reads.Asked,

@@ -1,3 +1,4 @@
+-- Six stores, in the definition's order. Assumes nothing.
 use mathlib.Core.Path.{refl}
 use native.Mathlib.Omega.{arith}
 use lib.ListN.{length-set}

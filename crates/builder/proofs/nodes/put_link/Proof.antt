@@ -1,3 +1,4 @@
+-- Three stores, in the definition's order. Assumes nothing.
 use mathlib.Core.Path.{refl}
 use native.Mathlib.Omega.{arith}
 use lib.ListN.{length-set}

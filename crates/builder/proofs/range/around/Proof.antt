@@ -3,9 +3,7 @@ use mathlib.Core.Path.{_≡_, sym, _∙_}
 use Prim.Native.Nat.{_-_}
 use native.Mathlib.Omega.{arith}
 use lib.ListN.{length, drop}
-use Rattle.aabb.specs.Bounds.{union}
 use Rattle.builder.specs.Range.{boxFrom, centroidBox, centroidsFrom, nodeBox}
-use Rattle.builder.specs.Tree.{grow}
 use Rattle.builder.proofs.Passes.{box-again, box-end, box-start, centroids-again, centroids-end, centroids-start}
 use borrow.Author.Needs.{needs}
 use Rattle.builder.proofs.range.around.Statement.{statement}

@@ -1,3 +1,4 @@
+-- The operations are the definition's, in its order. Assumes nothing.
 use Rattle.builder.specs.Choice.{costOf, weight}
 use borrow.Author.Needs.{needs}
 use Rattle.builder.proofs.split.cost.Statement.{statement}

@@ -1,13 +1,13 @@
+-- The boundaries from i on, with what is to the left joined, give the whole sweep. Assumes nothing.
 use mathlib.Core.Path.{_≡_, sym, _∙_, ap}
-use Prim.Native.Nat.{ℕ, _+_, _*_, _-_, _≤_, _<_, min}
+use Prim.Native.Nat.{ℕ, _+_, _*_, _-_, _≤_, _<_}
 use native.Mathlib.Omega.{arith}
-use mathlib.Core.Option.{none}
 use lib.ListN.{length, getD, drop}
 use Rattle.builder.specs.declared.bins.Bin.{Bin}
 use Rattle.builder.specs.Bins.{AtMost, blank, noBin, suffixOf}
 use Rattle.builder.specs.Choice.{sweepFrom}
 use Rattle.builder.specs.Heap.{parent}
-use Rattle.builder.specs.Tree.{joined, most-triangles}
+use Rattle.builder.specs.Tree.{most-triangles}
 use Rattle.builder.proofs.Choosing.{sweep-end, sweep-next}
 use Rattle.builder.proofs.Filling.{join-count, none-count}
 use borrow.Author.Needs.{needs}
@@ -27,7 +27,9 @@ none-requires : tie.Need-none-requires Inv-loop μ-loop
 none-requires c κs = search needs
 
 loop-holds : tie.Need-loop-holds Inv-loop μ-loop
-loop-holds c = (search needs, omega (arith, none-count (c .none .result) (c .none .ensures)), ap (λ (z : Bin). sweepFrom (c .before .before .before .before .args .axis) (c .before .before .before .before .args .min) (c .before .before .before .before .args .width) (c .before .before .before .before .args .parent) (c .before .before .before .before .args .best) z (c .before .before .before .before .args .b .bin) 0) (c .none .ensures), c .before .before .before .before .pre .0, c .before .before .before .before .pre .1, c .before .before .before .suffixes .ensures)
+loop-holds c =
+    let a = c .before .before .before .before .args in
+    (search needs, omega (arith, none-count (c .none .result) (c .none .ensures)), ap (λ (z : Bin). sweepFrom (a .axis) (a .min) (a .width) (a .parent) (a .best) z (a .b .bin) 0) (c .none .ensures), c .before .before .before .before .pre .0, c .before .before .before .before .pre .1, c .before .before .before .suffixes .ensures)
 
 cast-here : tie.Need-cast-here Inv-loop μ-loop
 cast-here c = search needs
@@ -60,10 +62,16 @@ loop-less : tie.Need-loop-less Inv-loop μ-loop
 loop-less c = omega (arith, c .before .before .before .before .loop-test .taken)
 
 loop-again : tie.Need-loop-again Inv-loop μ-loop
-loop-again c = (omega (arith, c .before .before .before .before .loop-test .taken), omega (arith, c .before .before .before .before .before .loop .inv .1, c .before .before .before .before .before .loop .inv .3 (c .before .before .before .before .before .loop .i), join-count (c .before .before .before .before .before .loop .left) _ (c .before .before .joined .result) (c .before .before .joined .ensures)), sweep-next (c .before .before .before .before .before .before .before .before .before .before .args .axis) (c .before .before .before .before .before .before .before .before .before .before .args .min) (c .before .before .before .before .before .before .before .before .before .before .args .width) (c .before .before .before .before .before .before .before .before .before .before .args .parent) (c .before .before .before .before .before .loop .most) (c .better .result) (c .before .before .before .before .before .loop .left) (c .before .before .joined .result) _ _ (c .before .before .before .before .before .loop .i) _ (c .before .before .before .before .before .loop .inv .4) (c .before .before .before .before .loop-test .taken) (c .before .before .joined .ensures) (c .before .before .before .before .before .loop .inv .5 (c .before .before .before .before .before .loop .i + 1) (omega (arith, c .before .before .before .before .loop-test .taken))) (c .better .ensures) (c .before .before .before .before .before .loop .inv .2), c .before .before .before .before .before .loop .inv .3, c .before .before .before .before .before .loop .inv .4, c .before .before .before .before .before .loop .inv .5)
+loop-again c =
+    let a = c .before .before .before .before .before .before .before .before .before .before .args in
+    let l = c .before .before .before .before .before .loop in
+    (omega (arith, c .before .before .before .before .loop-test .taken), omega (arith, l .inv .1, l .inv .3 (l .i), join-count (l .left) _ (c .before .before .joined .result) (c .before .before .joined .ensures)), sweep-next (a .axis) (a .min) (a .width) (a .parent) (l .most) (c .better .result) (l .left) (c .before .before .joined .result) _ _ (l .i) _ (l .inv .4) (c .before .before .before .before .loop-test .taken) (c .before .before .joined .ensures) (l .inv .5 (l .i + 1) (omega (arith, c .before .before .before .before .loop-test .taken))) (c .better .ensures) (l .inv .2), l .inv .3, l .inv .4, l .inv .5)
 
 returns : tie.Need-returns Inv-loop μ-loop
-returns c = sym (sweep-end (c .before .before .before .before .before .before .args .axis) (c .before .before .before .before .before .before .args .min) (c .before .before .before .before .before .before .args .width) (c .before .before .before .before .before .before .args .parent) (c .before .loop .most) (c .before .loop .left) (c .before .before .before .before .before .before .args .b .bin) (c .before .loop .i) (c .before .loop .inv .4) (c .before .loop .inv .0) (c .loop-test .left)) ∙ c .before .loop .inv .2
+returns c =
+    let a = c .before .before .before .before .before .before .args in
+    let l = c .before .loop in
+    sym (sweep-end (a .axis) (a .min) (a .width) (a .parent) (l .most) (l .left) (a .b .bin) (l .i) (l .inv .4) (l .inv .0) (c .loop-test .left)) ∙ l .inv .2
 
 pub sweep-spec : {M : Type 1} → statement M
 sweep-spec =

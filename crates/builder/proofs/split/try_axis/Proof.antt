@@ -1,6 +1,4 @@
 -- Skipped, or swept over its filled bins. Assumes nothing.
-use Rattle.aabb.specs.Vector.{along}
-use Rattle.builder.specs.Heap.{parent}
 use Rattle.builder.proofs.Choosing.{try-go, try-skip}
 use borrow.Author.Needs.{needs}
 use Rattle.builder.proofs.split.try_axis.Statement.{statement}

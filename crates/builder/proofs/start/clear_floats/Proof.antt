@@ -1,3 +1,4 @@
+-- The first i entries are zero. Assumes nothing.
 use mathlib.Core.Path.{_≡_, refl}
 use Prim.Native.Nat.{ℕ, _-_, _≤_}
 use lib.ListN.{length, take, replicate, length-set}
@@ -30,13 +31,17 @@ loop-less : tie.Need-loop-less Inv-loop μ-loop
 loop-less c = search needs
 
 loop-again : tie.Need-loop-again Inv-loop μ-loop
-loop-again c = (search needs, simp length-set (c .before .loop .inv .1), rep-more (c .before .loop .s) nought (c .before .loop .i) (c .loop-test .taken) (c .before .loop .inv .2))
+loop-again c =
+    let l = c .before .loop in
+    (search needs, simp length-set (l .inv .1), rep-more (l .s) nought (l .i) (c .loop-test .taken) (l .inv .2))
 
 same-length : tie.Need-same-length Inv-loop μ-loop
 same-length c = search needs
 
 returns : tie.Need-returns Inv-loop μ-loop
-returns c = all-written (λ (k : ℕ). replicate {A = Float} k nought) (c .before .loop .s) (c .before .loop .i) _ (c .before .loop .inv .0) (c .loop-test .left) (c .before .loop .inv .1) (c .before .loop .inv .2)
+returns c =
+    let l = c .before .loop in
+    all-written (λ (k : ℕ). replicate {A = Float} k nought) (l .s) (l .i) _ (l .inv .0) (c .loop-test .left) (l .inv .1) (l .inv .2)
 
 pub clear-floats-spec : {M : Type 1} → statement M
 clear-floats-spec =

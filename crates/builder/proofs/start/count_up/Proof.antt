@@ -1,3 +1,4 @@
+-- The first i entries count up. Assumes nothing.
 use mathlib.Core.Path.{_≡_, refl}
 use Prim.Native.Nat.{_-_, _≤_}
 use lib.ListN.{length, take, length-set}
@@ -33,13 +34,17 @@ loop-less : tie.Need-loop-less Inv-loop μ-loop
 loop-less c = search needs
 
 loop-again : tie.Need-loop-again Inv-loop μ-loop
-loop-again c = (search needs, simp length-set (c .before .loop .inv .1), up-more (c .before .loop .index) (c .before .loop .i) (c .loop-test .taken) (c .before .loop .inv .2))
+loop-again c =
+    let l = c .before .loop in
+    (search needs, simp length-set (l .inv .1), up-more (l .index) (l .i) (c .loop-test .taken) (l .inv .2))
 
 same-length : tie.Need-same-length Inv-loop μ-loop
 same-length c = search needs
 
 returns : tie.Need-returns Inv-loop μ-loop
-returns c = all-written upTo (c .before .loop .index) (c .before .loop .i) _ (c .before .loop .inv .0) (c .loop-test .left) (c .before .loop .inv .1) (c .before .loop .inv .2)
+returns c =
+    let l = c .before .loop in
+    all-written upTo (l .index) (l .i) _ (l .inv .0) (c .loop-test .left) (l .inv .1) (l .inv .2)
 
 pub count-up-spec : {M : Type 1} → statement M
 count-up-spec =

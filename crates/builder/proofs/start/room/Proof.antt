@@ -1,3 +1,4 @@
+-- Both cases of the definition. Assumes nothing.
 use Rattle.builder.proofs.Fills.{room-none, room-some}
 use borrow.Author.Needs.{needs}
 use Rattle.builder.proofs.start.room.Statement.{statement}

@@ -1,3 +1,4 @@
+-- The fields are the definition's. Assumes nothing.
 use Rattle.builder.specs.Bins.{noBin}
 use borrow.Author.Needs.{needs}
 use Rattle.builder.proofs.bins.Bin.none.Statement.{statement}
