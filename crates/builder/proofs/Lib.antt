@@ -13,4 +13,3 @@ pub mod Enclosing
 pub mod Placing
 pub mod Trees
 pub mod Successes
-pub mod Probes
