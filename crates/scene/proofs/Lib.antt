@@ -8,3 +8,5 @@ pub mod Accepting
 pub mod NearestHit
 pub mod Sighting
 pub mod Straight
+pub mod Room
+pub mod Whole

@@ -7,10 +7,13 @@ mod node; // node.rt: a node of the lent lists
 mod aim; // aim.rt: the ray, prepared for the box tests
 mod leaf; // leaf.rt: a leaf's triangles
 mod step; // step.rt: one step
+mod rays; // rays.rt: a sky of rays in one call
 
 use aabb::Ray;
 use aim::Aim;
 use pending::Pending;
+pub use rays::Filled;
+pub use rays::sky;
 use step::Turn;
 use tally::Nearest;
 use tally::Tally;
@@ -18,8 +21,9 @@ use triangle::Hit;
 use triangle::Triangle;
 ghost use mathlib.Core.Path.{_≡_};
 ghost use mathlib.Core.List.{[], _∷_};
-ghost use Prim.Native.Nat.{_<_, _≤_};
-ghost use Rattle.scene.specs.Lent.{lent, nodeCount, most-nodes};
+ghost use Prim.Native.Nat.{_<_, _≤_, _%_};
+ghost use lib.ListN.{length};
+ghost use Rattle.scene.specs.Lent.{lent, triangleCount, most-triangles, nodeCount, most-nodes};
 ghost use Rattle.scene.specs.Answer.{told};
 ghost use Rattle.scene.specs.Walk.{over, start, run, misfit, walk};
 
@@ -117,6 +121,27 @@ fn misfit(boxes: &[f64], links: &[u32]) -> bool
     boxes.len() != 2 * n
 }
 
+// The walk of a ray after tests 1 and 2. `unfit` is what test 8 finds: like those two it is the same for every ray.
+fn cast(
+    triangles: &[f64],
+    index: &[u32],
+    boxes: &[f64],
+    links: &[u32],
+    unfit: bool,
+    ray: Ray,
+) -> Answer
+    requires { ⌜ (length (now triangles) % 12 ≡ 0) × (triangleCount (now triangles) ≤ most-triangles) × (unfit ≡ misfit (now boxes) (now links)) ⌝ }
+    ensures { λ r. ⌜ told r ≡ walk (lent (now (triangles .entry)) (now (index .entry)) (now (boxes .entry)) (now (links .entry))) ray ⌝ }
+{
+    if !ray.admitted() {
+        return Answer::Refused { number: 7, at: 0 };
+    }
+    if unfit {
+        return Answer::Refused { number: 8, at: 0 };
+    }
+    run(triangles, index, boxes, links, ray)
+}
+
 // The nearest hit of the ray among the triangles of the leaves whose boxes it passes, or a miss, with the box tests and the triangle tests
 // made; or a refusal: 1 triangles not a multiple of 12 long; 2 more than 65,536 of them; 7 the ray isn't admitted; 8 links empty, not a
 // multiple of 3, over 131,071 nodes, or boxes not twice as long; then by steps 12 a box test beyond the number of nodes, 9 a bad node,
@@ -135,11 +160,6 @@ pub fn walk(triangles: &[f64], index: &[u32], boxes: &[f64], links: &[u32], ray:
             at: n as u64,
         };
     }
-    if !ray.admitted() {
-        return Answer::Refused { number: 7, at: 0 };
-    }
-    if misfit(boxes, links) {
-        return Answer::Refused { number: 8, at: 0 };
-    }
-    run(triangles, index, boxes, links, ray)
+    let unfit = misfit(boxes, links);
+    cast(triangles, index, boxes, links, unfit, ray)
 }
