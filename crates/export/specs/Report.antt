@@ -14,6 +14,9 @@ use Rattle.builder.specs.declared.Built.{Built}
 use Rattle.builder.specs.declared.Built.the-variants.{Tree, Refused}
 use Rattle.builder.specs.Build.{Outcome}
 use Rattle.scene.specs.Answer.{Refusal, none, numbered, Told}
+use Rattle.scene.specs.declared.rays.Filled.{Filled}
+use Rattle.scene.specs.declared.rays.Filled.the-variants.{Places, Refused as Unfilled}
+use Rattle.scene.specs.Sky.{Outcome as Filling}
 
 -- ---- what passes as numbers
 -- a ray: origin, direction
@@ -77,6 +80,29 @@ walkReport (numbered number at) hit boxes triangles numbers = walk number number
 
 unfoldable pub walked : Told → List Float → Walk
 walked a numbers = walkReport (a .refusal) (a .hit) (a .boxes) (a .triangles) numbers
+
+-- ---- pigeonmast_sky
+-- the number, and what at, times and told hold at the end
+pub record Sky : Type 0 where
+  pub answer : ℕ
+  pub at : List ℕ
+  pub times : List Float
+  pub told : List ℕ
+
+abbrev pub sky : ℕ → List ℕ → List Float → List ℕ → Sky
+sky answer at times told = record { answer = answer; at = at; times = times; told = told }
+
+-- 0, or the refusal number with its at
+unfoldable pub skyAnswer : Filled → ℕ
+skyAnswer Places = 0
+skyAnswer (Unfilled number at) = number
+
+unfoldable pub skyAt : Filled → List ℕ
+skyAt Places = 0 ∷ []
+skyAt (Unfilled number at) = at ∷ []
+
+unfoldable pub skyReport : Filling → Sky
+skyReport o = sky (skyAnswer (o .answer)) (skyAt (o .answer)) (o .times) (o .told)
 
 -- ---- pigeonmast_slab and pigeonmast_triangle
 -- the number, and what times or numbers hold at the end

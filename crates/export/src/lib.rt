@@ -7,6 +7,7 @@ use aabb::Span;
 use aabb::Vec3;
 use builder::Built;
 use scene::Answer;
+use scene::Filled;
 use triangle::Found;
 use triangle::Hit;
 use triangle::Triangle;
@@ -19,7 +20,8 @@ ghost use Rattle.builder.specs.Build.{built};
 ghost use Rattle.scene.specs.Lent.{lent};
 ghost use Rattle.scene.specs.Answer.{told as answered};
 ghost use Rattle.scene.specs.Walk as scene;
-ghost use Rattle.export.specs.Report.{rayOf, hitNumbers, frontNumber, sideNumber, build, buildAnswer, buildTold, buildReport, walk, walked, test, slabReport, triangleReport};
+ghost use Rattle.scene.specs.Sky.{sky as filling};
+ghost use Rattle.export.specs.Report.{rayOf, hitNumbers, frontNumber, sideNumber, build, buildAnswer, buildTold, buildReport, walk, walked, sky, skyAnswer, skyAt, skyReport, test, slabReport, triangleReport};
 
 // A ray from its six numbers: origin, direction.
 fn ray_of(numbers: &[f64; 6]) -> Ray
@@ -101,6 +103,23 @@ fn tell_walk(answer: Answer, numbers: &mut [f64; 7], told: &mut [u64; 4]) -> u32
     }
 }
 
+// What a sky of rays answered: 0 or the refusal number, with `at` written.
+fn tell_sky(answer: Filled, at: &mut [u64; 1]) -> u32
+    ensures { λ r. ⌜ r ≡ skyAnswer answer ⌝ }
+    ensures { λ _. ⌜ now (at .exit) ≡ skyAt answer ⌝ }
+{
+    match answer {
+        Filled::Places => {
+            *at = [0];
+            0
+        }
+        Filled::Refused { number, at: place } => {
+            *at = [place];
+            number
+        }
+    }
+}
+
 // What a slab test answered: 1 with `times` written, or 0.
 fn tell_slab(span: Span, times: &mut [f64; 2]) -> u32
     ensures { λ r. ⌜ test r (now (times .exit)) ≡ slabReport span (now (times .entry)) ⌝ }
@@ -160,6 +179,26 @@ pub extern "C" fn pigeonmast_walk(
 {
     let answer = scene::walk(triangles, index, boxes, links, ray_of(ray));
     tell_walk(answer, numbers, told)
+}
+
+// Walks every ray of `rays` (six numbers each: origin, direction) through the tree. 0 and at = 0: times has t of each ray's hit, else 0, and told
+// four numbers a ray: outcome (0 a miss, 100 a hit, else the refusal number), triangle or the refusal's at, box tests, triangle tests; room beyond
+// the rays stays. Or refusal 1, 2, 14 or 13 of the whole call (`scene::sky`) with its at; times and told stay unchanged.
+#[no_mangle]
+pub extern "C" fn pigeonmast_sky(
+    triangles: &[f64],
+    index: &[u32],
+    boxes: &[f64],
+    links: &[u32],
+    rays: &[f64],
+    times: &mut [f64],
+    told: &mut [u64],
+    at: &mut [u64; 1],
+) -> u32
+    ensures { λ r. ⌜ sky r (now (at .exit)) (now (times .exit)) (now (told .exit)) ≡ skyReport (filling (lent (now (triangles .entry)) (now (index .entry)) (now (boxes .entry)) (now (links .entry))) (now (rays .entry)) (now (times .entry)) (now (told .entry))) ⌝ }
+{
+    let answer = scene::sky(triangles, index, boxes, links, rays, times, told);
+    tell_sky(answer, at)
 }
 
 // The slab test of a box (min x, y, z, max x, y, z) and a ray (origin, direction). 1 and times = enter, exit; or 0 and times unchanged.
