@@ -11,6 +11,8 @@ use Rattle.builder.specs.Build.{Outcome, outcome}
 use Rattle.scene.specs.declared.Answer.{Answer}
 use Rattle.scene.specs.declared.Answer.the-variants.{Struck, Missed, Refused}
 use Rattle.scene.specs.Answer.{Told, none, numbered, told}
+use Rattle.scene.specs.declared.rays.Filled.{Filled}
+use Rattle.scene.specs.Sky.{Outcome as Filling, outcome as filling}
 
 -- Every public call of `order`, `aabb` and `triangle` promises `r ≡ d`, with d a definition of what it was given: two answers r and r' that
 -- the promise allows are equal.
@@ -43,3 +45,9 @@ told-fixes (Refused k i) (Missed b' c') p = absurd (let e = ap (λ (t : Told). t
 
 pub walk-fixed : (a a' : Answer) (d : Told) → told a ≡ d → told a' ≡ d → a ≡ a'
 walk-fixed a a' d p q = told-fixes a a' (p ∙ sym q)
+
+-- `sky`: the answer, and the answer room at the end
+pub sky-fixed : (a a' : Filled) (times times' : List Float) (places places' : List ℕ) (d : Filling) → filling a times places ≡ d → filling a' times' places' ≡ d → (a ≡ a') × (times ≡ times') × (places ≡ places')
+sky-fixed a a' times times' places places' d p q =
+    let e : filling a times places ≡ filling a' times' places' = p ∙ sym q in
+    (ap (λ (o : Filling). o .answer) e, ap (λ (o : Filling). o .times) e, ap (λ (o : Filling). o .told) e)

@@ -3,3 +3,4 @@ pub mod Probes
 pub mod Fixed
 pub mod Bridge
 pub mod Demand
+pub mod Sky

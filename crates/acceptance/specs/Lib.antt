@@ -1,3 +1,4 @@
 pub mod Handed
 pub mod Probes
 pub mod Demand
+pub mod Sky

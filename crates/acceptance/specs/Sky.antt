@@ -1,0 +1,29 @@
+-- Demand 3, read from one place of a sky of rays: the numbers that a caller finds there, and nothing else. Definitions only.
+use mathlib.Core.Path.{_≡_}
+use mathlib.Core.Logic.{_⊎_}
+use Prim.Native.Nat.{ℕ, _+_, _*_, _≤_}
+use lib.ListN.{length}
+use Rattle.aabb.specs.declared.vector.Ray.{Ray}
+use Rattle.triangle.specs.declared.Hit.{Hit}
+use Rattle.scene.specs.declared.rays.Place.{Place}
+use Rattle.scene.specs.Lent.{Lent, triangleCount}
+use Rattle.scene.specs.Tree.{Tree, leaves, entered, reached}
+use Rattle.scene.specs.NearestHit.{All, NothingAt}
+use Rattle.acceptance.specs.Demand.{NearestLowest}
+
+-- the place tells the triangle and t of the nearest
+pub record TellsNearest (s : Lent) (t : Tree) (r : Ray) (p : Place) : Type 0 where
+  pub hit : Hit
+  pub triangle : p .which ≡ hit .triangle
+  pub t-is : p .t ≡ hit .t
+  pub nearest : NearestLowest s r t hit
+
+pub record Demand3At (s : Lent) (t : Tree) (r : Ray) (p : Place) : Type 0 where
+  -- a hit or a miss
+  pub served : (p .outcome ≡ 100) ⊎ (p .outcome ≡ 0)
+  pub box-tests : p .boxes ≡ 1 + 2 * entered r t
+  pub triangle-tests : p .triangles ≡ length (reached r t)
+  pub most-boxes : p .boxes + 1 ≤ 2 * leaves t
+  pub most-triangles : p .triangles ≤ triangleCount (s .triangles)
+  pub hit : p .outcome ≡ 100 → TellsNearest s t r p
+  pub no-hit : p .outcome ≡ 0 → All (NothingAt s r) (reached r t)
