@@ -18,7 +18,7 @@
  * Triangles are twelve numbers each: v0, v1, v2, normal. A node is six numbers
  * in `boxes` (min x, y, z, max x, y, z) and three in `links` (left child or
  * first entry, count, kind: 1 leaf, 0 internal). A ray is its origin and its
- * direction. The refusal numbers are those of document 01:
+ * direction. The refusal numbers are those of documents 01 and 02:
  *
  *    1  triangle slice not a multiple of 12 long
  *    2  more than 65,536 triangles                          at: how many
@@ -34,6 +34,8 @@
  *                                                           at: its place
  *   11  more than 64 pending                                at: node
  *   12  a box test beyond the number of nodes               at: node
+ *   13  answer room too short
+ *   14  ray slice not a multiple of six long
  */
 #ifndef PIGEONMAST_H
 #define PIGEONMAST_H
@@ -71,6 +73,22 @@ uint32_t pigeonmast_walk(const double *triangles, size_t triangles_len,
                          const uint32_t *links, size_t links_len,
                          const double *ray, double *numbers,
                          uint64_t told[4]);
+
+/* Walks the tree with every ray of rays (6 numbers each), as pigeonmast_walk
+ * would one by one. Answers 0 with at = 0, times = t of each ray's hit, else 0,
+ * and told four a ray: outcome (0 for a miss, PIGEONMAST_HIT for a hit, else the
+ * refusal), triangle or the refusal's at, box tests, triangle tests. A refused
+ * ray does not stop the rest; room beyond the rays stays. Or answers refusal 1,
+ * 2, 14 or 13 (in this order) of the whole call, with its at; times and told
+ * stay unchanged. Room for one of times and four of told a ray is asked. */
+uint32_t pigeonmast_sky(const double *triangles, size_t triangles_len,
+                        const uint32_t *index, size_t index_len,
+                        const double *boxes, size_t boxes_len,
+                        const uint32_t *links, size_t links_len,
+                        const double *rays, size_t rays_len,
+                        double *times, size_t times_len,
+                        uint64_t *told, size_t told_len,
+                        uint64_t at[1]);
 
 /* Where a ray (6 numbers) passes a box (6 numbers): 1 with times = enter, exit;
  * or 0 with times unchanged. Answers on every double. */

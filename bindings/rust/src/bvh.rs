@@ -34,6 +34,32 @@ pub struct Walk {
     pub triangle_tests: u64,
 }
 
+/// What a sky of rays tells of one of them.
+#[derive(Clone, Copy, Debug, PartialEq)]
+pub struct Place {
+    /// The triangle that is struck and t there, or none for a miss.
+    pub hit: Option<(usize, f64)>,
+    /// Boxes tested.
+    pub box_tests: u64,
+    /// Triangles tested.
+    pub triangle_tests: u64,
+}
+
+impl Place {
+    fn new(t: f64, told: &[u64]) -> Result<Self, Refusal> {
+        let hit = match told[0] as u32 {
+            0 => None,
+            raw::HIT => Some((told[1] as usize, t)),
+            number => return Err(Refusal::new(number, told[1])),
+        };
+        Ok(Self {
+            hit,
+            box_tests: told[2],
+            triangle_tests: told[3],
+        })
+    }
+}
+
 /// Builds the tree of these triangles. Refused with 2, 5 or 6.
 pub fn build_bvh(triangles: &[Triangle]) -> Result<Bvh, Refusal> {
     Bvh::from_numbers(triangles.iter().flat_map(Triangle::numbers).collect())
@@ -125,6 +151,41 @@ impl Bvh {
             box_tests: told[2],
             triangle_tests: told[3],
         })
+    }
+
+    /// Walks the tree with many rays (origin, direction) in one call: place k
+    /// is what [`Bvh::intersect`] tells of ray k, its refusal included. The whole
+    /// call is refused (1 or 2) only for triangles of [`Bvh::from_lists`].
+    ///
+    /// ```
+    /// use pigeonmast::Bvh;
+    /// let t = vec![0.0, 0.0, 0.0, 1.0, 0.0, 0.0, 0.0, 1.0, 0.0, 0.0, 0.0, 1.0];
+    /// let bvh = Bvh::from_numbers(t)?;
+    /// let down = |x: f64| [x, 0.25, 1.0, 0.0, 0.0, -1.0];
+    /// let places = bvh.sky(&[down(0.25), down(f64::NAN), down(2.0)])?;
+    /// assert_eq!(places[0]?.hit, Some((0, 1.0)));
+    /// assert_eq!(places[1].unwrap_err().number(), 7);
+    /// assert_eq!(places[2]?.hit, None);
+    /// # Ok::<(), pigeonmast::Refusal>(())
+    /// ```
+    pub fn sky(&self, rays: &[[f64; 6]]) -> Result<Vec<Result<Place, Refusal>>, Refusal> {
+        let (mut times, mut told) = (vec![0.0; rays.len()], vec![0; 4 * rays.len()]);
+        let mut at = [0];
+        let number = raw::sky(
+            &self.triangles,
+            &self.index,
+            &self.boxes,
+            &self.links,
+            rays.as_flattened(),
+            &mut times,
+            &mut told,
+            &mut at,
+        );
+        if number != 0 {
+            return Err(Refusal::new(number, at[0]));
+        }
+        let places = times.iter().zip(told.chunks_exact(4));
+        Ok(places.map(|(t, told)| Place::new(*t, told)).collect())
     }
 
     /// How many nodes it has: 2L-1 of L leaves.

@@ -28,6 +28,24 @@ extern "C" {
         told: *mut u64,
     ) -> u32;
 
+    pub fn pigeonmast_sky(
+        triangles: *const f64,
+        triangles_len: usize,
+        index: *const u32,
+        index_len: usize,
+        boxes: *const f64,
+        boxes_len: usize,
+        links: *const u32,
+        links_len: usize,
+        rays: *const f64,
+        rays_len: usize,
+        times: *mut f64,
+        times_len: usize,
+        told: *mut u64,
+        told_len: usize,
+        at: *mut u64,
+    ) -> u32;
+
     pub fn pigeonmast_slab(bounds: *const f64, ray: *const f64, times: *mut f64) -> u32;
 
     pub fn pigeonmast_triangle(triangle: *const f64, ray: *const f64, numbers: *mut f64) -> u32;

@@ -34,7 +34,9 @@
 //! # Ok::<(), pigeonmast::Refusal>(())
 //! ```
 //!
-//! [`raw`] has the four calls of the library as they stand, over lent slices.
+//! [`Bvh::sky`] walks many rays in one call.
+//!
+//! [`raw`] has the five calls of the library as they stand, over lent slices.
 
 #![deny(missing_docs)]
 
@@ -47,7 +49,7 @@ mod triangle;
 mod vector;
 
 pub use aabb::{ray_aabb_slab_test, Aabb};
-pub use bvh::{build_bvh, Bvh, BvhNode, Walk};
+pub use bvh::{build_bvh, Bvh, BvhNode, Place, Walk};
 pub use refusal::Refusal;
 pub use triangle::{HitRecord, Triangle};
 pub use vector::{Ray, Vec3};

@@ -1,4 +1,4 @@
-//! The four calls of the library as they stand, over lent slices.
+//! The five calls of the library as they stand, over lent slices.
 //!
 //! No call has a condition of its own: every input gets an answer or a refusal.
 //! What the boundary asks beyond that, a Rust slice or array already is: not
@@ -7,7 +7,7 @@
 
 use crate::ffi;
 
-/// The answer of [`walk`] for a hit.
+/// The answer of [`walk`] for a hit, and the outcome that [`sky`] tells of one.
 pub const HIT: u32 = 100;
 
 /// Builds the tree of `triangles`, twelve numbers each, into the lent buffers.
@@ -83,6 +83,56 @@ pub fn walk(
             ray.as_ptr(),
             numbers.as_mut_ptr(),
             told.as_mut_ptr(),
+        )
+    }
+}
+
+/// Walks a tree with every ray of `rays`, six numbers each, as [`walk`] would one
+/// by one.
+///
+/// Answers 0 with `at` = 0, `times` = t of each ray's hit, else 0, and `told`
+/// four a ray: outcome (0 for a miss, [`HIT`], else the refusal's number),
+/// triangle or the refusal's at, box tests, triangle tests. A refused ray does
+/// not stop the rest; room beyond the rays stays. Or refusal 1, 2, 14 or 13 of
+/// the whole call, with its `at`; `times` and `told` stay unchanged.
+///
+/// ```
+/// let (mut times, mut told, mut at) = ([9.0; 2], [9; 8], [9]);
+/// // No nodes at all: each ray's place says refusal 8.
+/// let rays = [0.0, 0.0, 0.0, 0.0, 0.0, 1.0];
+/// let answer = pigeonmast::raw::sky(&[], &[], &[], &[], &rays, &mut times, &mut told, &mut at);
+/// assert_eq!((answer, at, times), (0, [0], [0.0, 9.0]));
+/// assert_eq!(told, [8, 0, 0, 0, 9, 9, 9, 9]);
+/// ```
+#[allow(clippy::too_many_arguments)]
+pub fn sky(
+    triangles: &[f64],
+    index: &[u32],
+    boxes: &[f64],
+    links: &[u32],
+    rays: &[f64],
+    times: &mut [f64],
+    told: &mut [u64],
+    at: &mut [u64; 1],
+) -> u32 {
+    // SAFETY: as in `build`.
+    unsafe {
+        ffi::pigeonmast_sky(
+            triangles.as_ptr(),
+            triangles.len(),
+            index.as_ptr(),
+            index.len(),
+            boxes.as_ptr(),
+            boxes.len(),
+            links.as_ptr(),
+            links.len(),
+            rays.as_ptr(),
+            rays.len(),
+            times.as_mut_ptr(),
+            times.len(),
+            told.as_mut_ptr(),
+            told.len(),
+            at.as_mut_ptr(),
         )
     }
 }

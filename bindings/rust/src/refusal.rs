@@ -1,9 +1,9 @@
-//! The refusals of document 01.
+//! The refusals of documents 01 and 02.
 
 use std::error::Error;
 use std::fmt;
 
-/// Why a call was refused: document 01's number, and its place.
+/// Why a call was refused: the documents' number, and its place.
 #[derive(Clone, Copy, Debug, PartialEq, Eq, Hash)]
 pub struct Refusal {
     number: u32,
@@ -15,7 +15,7 @@ impl Refusal {
         Self { number, place }
     }
 
-    /// 1 to 12, as in document 01's table.
+    /// 1 to 12, as in document 01's table; 13 and 14 of document 02.
     #[must_use]
     pub fn number(&self) -> u32 {
         self.number
@@ -44,7 +44,9 @@ impl Refusal {
             10 => "index entry met is not below the number of triangles",
             11 => "more than 64 pending",
             12 => "a box test beyond the number of nodes",
-            _ => "a number that document 01 doesn't have",
+            13 => "answer room too short",
+            14 => "ray slice not a multiple of six long",
+            _ => "a number that the documents don't have",
         }
     }
 }

@@ -93,6 +93,78 @@ fn of_foreign_lists() {
     assert_eq!(walk(&[0], &UNIT.repeat(100), &links), Err((11, 0)));
 }
 
+/// One ray over T, and the refusal or what its places hold.
+fn sky(mesh: &[f64], rays: &[f64], times: usize, told: usize) -> (u32, u64, Vec<f64>, Vec<u64>) {
+    let (mut times, mut told, mut at) = (vec![9.0; times], vec![9; told], [9]);
+    let links = [0, 1, 1];
+    let number = raw::sky(
+        mesh,
+        &[0],
+        &UNIT,
+        &links,
+        rays,
+        &mut times,
+        &mut told,
+        &mut at,
+    );
+    (number, at[0], times, told)
+}
+
+#[test]
+fn of_a_whole_sky() {
+    let ray = down().numbers();
+    let kept = |number, at, times, told| (number, at, vec![9.0; times], vec![9; told]);
+    // 1, 2, 14, 13, in this order, and a refused call writes nothing.
+    assert_eq!(sky(&T[..11], &ray[..5], 0, 0), kept(1, 0, 0, 0));
+    let many = vec![0.0; 12 * 65_537];
+    assert_eq!(sky(&many, &ray[..5], 0, 0), kept(2, 65_537, 0, 0));
+    assert_eq!(sky(&T, &ray[..5], 0, 0), kept(14, 0, 0, 0));
+    assert_eq!(sky(&T, &ray, 0, 4), kept(13, 0, 0, 4));
+    assert_eq!(sky(&T, &ray, 1, 3), kept(13, 0, 1, 3));
+    assert_eq!(
+        sky(&T, &ray, 1, 4),
+        (0, 0, vec![1.0], vec![u64::from(raw::HIT), 0, 1, 1])
+    );
+    assert_eq!(sky(&T, &[], 0, 0), kept(0, 0, 0, 0));
+}
+
+#[test]
+fn of_a_ray_among_others() {
+    let ray = down().numbers();
+    let mut rays = ray.repeat(3);
+    rays[6] = f64::NAN;
+    rays[12] = 2.0;
+    let (number, at, times, told) = sky(&T, &rays, 5, 14);
+    assert_eq!((number, at, times), (0, 0, vec![1.0, 0.0, 0.0, 9.0, 9.0]));
+    let hit = u64::from(raw::HIT);
+    assert_eq!(told, [hit, 0, 1, 1, 7, 0, 0, 0, 0, 0, 1, 0, 9, 9]);
+    // The same by the tree's own call, and as the single walks say it.
+    let bvh = Bvh::from_numbers(T.to_vec()).expect("T is admitted");
+    let lent: Vec<[f64; 6]> = rays
+        .chunks_exact(6)
+        .map(|r| r.try_into().unwrap())
+        .collect();
+    let places = bvh.sky(&lent).expect("room is there");
+    for (place, [ox, oy, oz, dx, dy, dz]) in places.iter().zip(lent) {
+        let one = bvh.intersect(&Ray::new([ox, oy, oz].into(), [dx, dy, dz].into()));
+        match (place, one) {
+            (Ok(place), Ok(walk)) => {
+                assert_eq!(place.hit, walk.hit.map(|h| (h.triangle, h.t)));
+                assert_eq!(place.box_tests, walk.box_tests);
+                assert_eq!(place.triangle_tests, walk.triangle_tests);
+            }
+            (place, one) => assert_eq!(place.unwrap_err(), one.unwrap_err()),
+        }
+    }
+    assert_eq!(bvh.sky(&[]), Ok(vec![]));
+    let ragged = Bvh::from_lists(T[..11].to_vec(), vec![0], UNIT.to_vec(), vec![0, 1, 1]);
+    assert_eq!(told_of(ragged.sky(&[])), (1, 0));
+}
+
+fn told_of<T: std::fmt::Debug>(answer: Result<T, Refusal>) -> (u32, u64) {
+    told(answer.unwrap_err())
+}
+
 #[test]
 fn leave_numbers_and_times_alone() {
     let (mut numbers, mut told, mut times) = ([9.0; 7], [9; 4], [9.0; 2]);

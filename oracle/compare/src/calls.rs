@@ -1,12 +1,16 @@
-//! The four calls under test, by value: Pigeonmast's, or the reading's.
+//! The five calls under test, by value: Pigeonmast's, or the reading's.
 
 pub type Build = fn(&[f64], &mut [u32], &mut [f64], &mut [u32], &mut [u64; 2]) -> u32;
 pub type Walk = fn(&[f64], &[u32], &[f64], &[u32], &[f64; 6], &mut [f64; 7], &mut [u64; 4]) -> u32;
+
+pub type Sky =
+    fn(&[f64], &[u32], &[f64], &[u32], &[f64], &mut [f64], &mut [u64], &mut [u64; 1]) -> u32;
 
 #[derive(Clone, Copy)]
 pub struct Calls {
     pub build: Build,
     pub walk: Walk,
+    pub sky: Sky,
     pub slab: fn(&[f64; 6], &[f64; 6], &mut [f64; 2]) -> u32,
     pub triangle: fn(&[f64; 12], &[f64; 6], &mut [f64; 7]) -> u32,
 }
@@ -14,6 +18,7 @@ pub struct Calls {
 pub const READING: Calls = Calls {
     build: reading::calls::build,
     walk: reading::calls::walk,
+    sky: reading::calls::sky,
     slab: reading::calls::slab,
     triangle: reading::calls::triangle,
 };

@@ -26,7 +26,8 @@ pub const KINDS: [(&str, Make); 5] = [
 /// A box that most rays of these cases pass.
 const WIDE: [f64; 6] = [-1e6, -1e6, -1e6, 1e6, 1e6, 1e6];
 
-fn built(r: &mut Random) -> Hostile {
+/// A built tree and a ray for it: not hostile yet.
+pub fn built(r: &mut Random) -> Hostile {
     let n = r.whole(0, 24);
     let mesh = if r.one_in(2) {
         meshes::soup(r, n)

@@ -1,5 +1,5 @@
 //! What the runs share: seeded meshes, rays and hostile lists, and the checks
-//! that hold four calls to the published Rust and to the reading.
+//! that hold five calls to the published Rust and to the reading.
 
 pub mod calls;
 pub mod foreign_check;
@@ -13,6 +13,7 @@ pub mod reading_check;
 pub mod replay;
 pub mod run;
 pub mod show;
+pub mod sky_check;
 pub mod world;
 
 /// The buffers of a tree, as lent.

@@ -4,8 +4,10 @@ use crate::calls::Calls;
 use crate::mesh_check::{self, Case, Tally};
 use crate::random::Random;
 use crate::{
-    foreign_check, functions, hostile, meshes, node_room, rays, reading_check, show, Lists,
+    foreign_check, functions, hostile, meshes, node_room, rays, reading_check, show, sky_check,
+    Lists,
 };
+use std::collections::BTreeMap;
 
 #[derive(Clone, Copy)]
 pub struct Plan {
@@ -14,6 +16,7 @@ pub struct Plan {
     pub rays_per_mesh: usize,
     pub large_meshes: usize,
     pub hostile: usize,
+    pub skies: usize,
     pub functions: usize,
 }
 
@@ -23,6 +26,7 @@ pub const QUICK: Plan = Plan {
     rays_per_mesh: 12,
     large_meshes: 3,
     hostile: 100_000,
+    skies: 30_000,
     functions: 1_000_000,
 };
 
@@ -32,6 +36,7 @@ pub const LONG: Plan = Plan {
     rays_per_mesh: 12,
     large_meshes: 30,
     hostile: 1_500_000,
+    skies: 400_000,
     functions: 20_000_000,
 };
 
@@ -41,6 +46,7 @@ pub fn all(calls: &Calls, plan: &Plan) -> u64 {
         every_mesh(calls, plan),
         large_meshes(calls, plan),
         every_hostile(calls, plan),
+        every_sky(calls, plan),
         every_function(calls, plan),
     ];
     parts.iter().sum()
@@ -186,7 +192,7 @@ fn every_hostile(calls: &Calls, plan: &Plan) -> u64 {
     let hook = std::panic::take_hook();
     std::panic::set_hook(Box::new(|_| {}));
     for (kind, (name, make)) in hostile::KINDS.iter().enumerate() {
-        let mut answers = std::collections::BTreeMap::new();
+        let mut answers = BTreeMap::new();
         let mut r = Random::new((plan.seed ^ 3) + kind as u64 * 1_000_000_007);
         for k in 0..plan.hostile / hostile::KINDS.len() {
             let case = make(&mut r);
@@ -236,6 +242,34 @@ fn odd_build(calls: &Calls, r: &mut Random, case: &hostile::Hostile) -> Result<u
     let lengths = [about(n), about(6 * room), about(3 * room)];
     let rooms = Lists::rooms(r, lengths[0], lengths[1], lengths[2]);
     reading_check::build(calls, &case.mesh, &rooms)
+}
+
+/// Many rays in one call, over built trees and hostile lists.
+fn every_sky(calls: &Calls, plan: &Plan) -> u64 {
+    let mut found = Found::default();
+    let mut r = Random::new(plan.seed ^ 7);
+    let (mut answers, mut outcomes) = (BTreeMap::new(), BTreeMap::new());
+    let large = sky_check::large(&mut r);
+    let many = (0..plan.skies).map(|_| sky_check::sky(&mut r));
+    for sky in large.into_iter().chain(many) {
+        match sky_check::check(calls, &sky) {
+            Ok((number, places)) => {
+                *answers.entry(number).or_insert(0_u64) += 1;
+                for outcome in places {
+                    *outcomes.entry(outcome).or_insert(0_u64) += 1;
+                }
+            }
+            Err(why) => found.add(sky.rays.len() + sky.case.mesh.len(), || {
+                let rays = show::bits(&sky.rays);
+                format!("  {why}\n  {}  rays: {rays}", show::hostile(&sky.case))
+            }),
+        }
+    }
+    println!(
+        "skies of rays, seed {}: answers {answers:?}, places {outcomes:?}",
+        plan.seed ^ 7
+    );
+    found.end()
 }
 
 fn every_function(calls: &Calls, plan: &Plan) -> u64 {

@@ -12,6 +12,7 @@ fn the_reading_is_the_rust() {
         rays_per_mesh: 8,
         large_meshes: 1,
         hostile: 500,
+        skies: 500,
         functions: 20_000,
     };
     assert_eq!(all(&READING, &plan), 0);

@@ -1,7 +1,7 @@
-//! The reading behind the boundary of the four exported calls.
+//! The reading behind the boundary of the five exported calls.
 
 use crate::walk::Answer;
-use crate::{boxes, builder, triangles, walk as walker};
+use crate::{boxes, builder, sky as skies, triangles, walk as walker};
 
 pub fn build(
     triangles: &[f64],
@@ -51,6 +51,23 @@ pub fn walk(
             refusal.number
         }
     }
+}
+
+#[allow(clippy::too_many_arguments)]
+pub fn sky(
+    triangles: &[f64],
+    index: &[u32],
+    boxes: &[f64],
+    links: &[u32],
+    rays: &[f64],
+    times: &mut [f64],
+    told: &mut [u64],
+    at: &mut [u64; 1],
+) -> u32 {
+    let answer = skies::sky(triangles, index, boxes, links, rays, times, told);
+    let (number, place) = answer.map_or_else(|refusal| (refusal.number, refusal.at), |()| (0, 0));
+    *at = [place];
+    number
 }
 
 pub fn slab(bounds: &[f64; 6], ray: &[f64; 6], times: &mut [f64; 2]) -> u32 {

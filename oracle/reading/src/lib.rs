@@ -1,4 +1,5 @@
-//! A plain reading of document 01, written from the paper and not from the
+//! A plain reading of document 01, and of document 02's requests as they are
+//! served, written from the paper and not from the
 //! Rust. It answers where the Rust panics or loops: refusals, hostile lists,
 //! and what every lent buffer holds at the end.
 //!
@@ -10,6 +11,7 @@
 pub mod boxes;
 pub mod builder;
 pub mod calls;
+pub mod sky;
 pub mod split;
 pub mod triangles;
 pub mod walk;

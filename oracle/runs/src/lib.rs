@@ -1,4 +1,4 @@
-//! What the commands share: Pigeonmast's four calls.
+//! What the commands share: Pigeonmast's five calls.
 
 use compare::calls::Calls;
 use pigeonmast::raw;
@@ -8,6 +8,7 @@ pub mod safe_calls;
 pub const PIGEONMAST: Calls = Calls {
     build: raw::build,
     walk: raw::walk,
+    sky: raw::sky,
     slab: raw::slab,
     triangle: raw::triangle,
 };

@@ -1,9 +1,9 @@
-//! The crate's own types on top of the four calls: that nothing is lost or
+//! The crate's own types on top of the five calls: that nothing is lost or
 //! turned around between `Bvh` and `raw`.
 
 use compare::random::Random;
 use compare::{meshes, rays};
-use pigeonmast::{raw, Bvh, Ray};
+use pigeonmast::{raw, Bvh, Place, Ray, Walk};
 
 fn told(answer: Result<pigeonmast::Walk, pigeonmast::Refusal>) -> (u32, [u64; 4], [f64; 7]) {
     let walk = match answer {
@@ -44,6 +44,7 @@ fn one(seed: u64) -> Result<u64, String> {
         (got, wanted) => return Err(format!("Bvh::from_numbers {got:?}, the reading {wanted:?}")),
     };
     let nodes = bvh.node_count();
+    let (mut lent_rays, mut singles) = (Vec::new(), Vec::new());
     for k in 0..8 {
         let ray = rays::KINDS[r.below(rays::KINDS.len())].1(&mut r, &mesh);
         let (mut numbers, mut wanted_told) = ([0.0; 7], [0; 4]);
@@ -62,6 +63,21 @@ fn one(seed: u64) -> Result<u64, String> {
         if got != (number, wanted_told, numbers) {
             return Err(format!("Bvh::intersect, ray {k}: {got:?}, the reading {number} {wanted_told:?} {numbers:?}"));
         }
+        lent_rays.push(ray);
+        singles.push(bvh.intersect(&lent));
+    }
+    // The sky of the same rays, place by place.
+    let places = bvh
+        .sky(&lent_rays)
+        .map_err(|why| format!("Bvh::sky: {why}"))?;
+    let of_walk = |walk: Walk| Place {
+        hit: walk.hit.map(|h| (h.triangle, h.t)),
+        box_tests: walk.box_tests,
+        triangle_tests: walk.triangle_tests,
+    };
+    let wanted: Vec<_> = singles.into_iter().map(|one| one.map(of_walk)).collect();
+    if places != wanted {
+        return Err(format!("Bvh::sky: {places:?}, the single walks {wanted:?}"));
     }
     Ok(8)
 }

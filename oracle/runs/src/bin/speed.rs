@@ -4,6 +4,8 @@
 //!
 //! Same meshes and rays, the two sides in turn, the least of several runs. The
 //! Rust's build allocates its lists; Pigeonmast's are lent, made once before.
+//! A second table has a panel's rays in one call beside single calls, both
+//! Pigeonmast's.
 
 use compare::random::Random;
 use compare::{meshes, node_room, rays, world, Lists};
@@ -17,13 +19,15 @@ use std::time::Instant;
 
 const RAYS: usize = 10_000;
 const SIZES: [usize; 3] = [1_000, 10_000, 65_536];
+/// A survey casts about so many rays from each panel.
+const SKY: usize = 2_000;
 
 /// The least ns of either side, in turn, so that neither has the quieter
 /// machine.
-fn least(runs: usize, mut rust: impl FnMut(), mut pigeonmast: impl FnMut()) -> [f64; 2] {
+fn least(runs: usize, mut first: impl FnMut(), mut second: impl FnMut()) -> [f64; 2] {
     let mut best = [f64::INFINITY; 2];
     for _ in 0..runs {
-        for (side, run) in [&mut rust as &mut dyn FnMut(), &mut pigeonmast]
+        for (side, run) in [&mut first as &mut dyn FnMut(), &mut second]
             .into_iter()
             .enumerate()
         {
@@ -36,8 +40,11 @@ fn least(runs: usize, mut rust: impl FnMut(), mut pigeonmast: impl FnMut()) -> [
 }
 
 fn row(what: &str, per: f64, ns: [f64; 2]) {
-    let [rust, ours] = ns.map(|x| x / per);
-    println!("| {what} | {rust:.0} | {ours:.0} | {:.2} |", ours / rust);
+    let [first, second] = ns.map(|x| x / per);
+    println!(
+        "| {what} | {first:.0} | {second:.0} | {:.2} |",
+        second / first
+    );
 }
 
 fn build(mesh: &[f64], lists: &mut Lists) -> [u64; 2] {
@@ -121,6 +128,64 @@ fn compare_on(name: &str, mesh: &[f64], r: &mut Random) {
     }
 }
 
+/// A panel's rays, as single calls and as one call.
+fn sky_on(name: &str, mesh: &[f64], r: &mut Random) {
+    let n = mesh.len() / 12;
+    let room = node_room(n);
+    let mut lists = Lists::rooms(r, n, 6 * room, 3 * room);
+    let nodes = build(mesh, &mut lists)[0] as usize;
+    lists.boxes.truncate(6 * nodes);
+    lists.links.truncate(3 * nodes);
+    let kinds = [0, 2, 6].map(|k| rays::KINDS[k].1);
+    let lent: Vec<[f64; 6]> = (0..SKY).map(|k| kinds[k % 3](r, mesh)).collect();
+    let (mut singles, mut told) = (vec![[0; 4]; SKY], vec![0; 4 * SKY]);
+    let mut times = vec![0.0; SKY];
+    let walked = least(
+        25,
+        || {
+            let mut numbers = [0.0; 7];
+            for (ray, told) in lent.iter().zip(&mut singles) {
+                let number = raw::walk(
+                    mesh,
+                    &lists.index,
+                    &lists.boxes,
+                    &lists.links,
+                    black_box(ray),
+                    &mut numbers,
+                    told,
+                );
+                black_box((number, numbers));
+            }
+        },
+        || {
+            let number = raw::sky(
+                mesh,
+                &lists.index,
+                &lists.boxes,
+                &lists.links,
+                black_box(&lent).as_flattened(),
+                &mut times,
+                &mut told,
+                &mut [0],
+            );
+            black_box((number, &times));
+        },
+    );
+    row(
+        &format!("{SKY} rays, {name}, {n} triangles"),
+        SKY as f64,
+        walked,
+    );
+    let tests = |told: &[u64]| [told[2], told[3]];
+    if !singles
+        .iter()
+        .zip(told.chunks_exact(4))
+        .all(|(one, place)| tests(one) == tests(place))
+    {
+        stop("speed: one call and single calls differ: run the differential");
+    }
+}
+
 fn main() {
     if std::env::args().len() > 1 {
         stop("usage: speed (it takes no words)");
@@ -131,14 +196,28 @@ fn main() {
     println!("| what | Rust | Pigeonmast | ratio |");
     println!("|---|---:|---:|---:|");
     let mut r = Random::new(4_711);
+    let mut largest = Vec::new();
     for n in SIZES {
         let mesh = meshes::terrain(&mut r, n);
         compare_on("terrain with houses", &mesh, &mut r);
+        if n == 65_536 {
+            largest.push(("terrain with houses", mesh));
+        }
     }
     for n in SIZES {
         let mesh = meshes::even_soup(&mut r, n);
         compare_on("soup", &mesh, &mut r);
+        if n == 65_536 {
+            largest.push(("soup", mesh));
+        }
     }
     let mesh = meshes::worst(&mut r, 65_536);
     compare_on("worst case, the fallback", &mesh, &mut r);
+
+    println!("\nns a ray, both Pigeonmast's; least of 25 runs in turn.\n");
+    println!("| what | single calls | one call | ratio |");
+    println!("|---|---:|---:|---:|");
+    for (name, mesh) in &largest {
+        sky_on(name, mesh, &mut r);
+    }
 }
