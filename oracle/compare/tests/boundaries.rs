@@ -1,6 +1,9 @@
-//! The seeded meshes come to both sides of what they are named after.
+//! The seeded meshes come to both sides of what they are named after, and the
+//! skies of rays to every answer.
 
-use compare::{meshes, random::Random, world};
+use compare::calls::READING;
+use compare::{meshes, random::Random, sky_check, world};
+use std::collections::BTreeSet;
 
 #[test]
 fn a_chain_takes_one_away_at_each_level() {
@@ -32,4 +35,24 @@ fn the_fallback_runs_near_2_to_the_40() {
     let some = (0..200).filter(|seed| fell(&meshes::ulps(&mut Random::new(*seed), 30)));
     assert!(some.count() > 50);
     assert!(fell(&meshes::worst(&mut Random::new(1), 1_000)));
+}
+
+#[test]
+fn skies_come_to_every_answer() {
+    let mut r = Random::new(5);
+    let (mut answers, mut outcomes) = (BTreeSet::new(), BTreeSet::new());
+    let (mut spare, mut among_others) = (0, 0);
+    for _ in 0..4_000 {
+        let sky = sky_check::sky(&mut r);
+        let (number, places) = sky_check::check(&READING, &sky).unwrap();
+        answers.insert(number);
+        spare += u32::from(number == 0 && sky.told.len() > 4 * places.len());
+        let served = |outcome: &u64| [0, 100].contains(outcome);
+        among_others += u32::from(places.iter().any(served) && !places.iter().all(served));
+        outcomes.extend(places);
+    }
+    assert!(answers.is_superset(&[0, 1, 13, 14].into()), "{answers:?}");
+    let wanted = [0, 5, 7, 8, 9, 10, 11, 12, 100].into();
+    assert!(outcomes.is_superset(&wanted), "{outcomes:?}");
+    assert!(spare > 500 && among_others > 200, "{spare} {among_others}");
 }
