@@ -9,7 +9,9 @@ use mathlib.Core.List.{List, [], _∷_, _++_}
 use lib.ListN.{length, set, getD, drop, length-append, List·getD-append}
 use lib.Seq.{drop-cons, set-append-seam, getD-append-seam}
 use lib.Ieee.{Float, nan}
+use Rattle.aabb.specs.declared.vector.Vec3.{Vec3}
 use Rattle.aabb.specs.declared.vector.Ray.{Ray}
+use Rattle.aabb.specs.Vector.{vectorAt}
 use Rattle.scene.specs.declared.rays.Place.{Place}
 use Rattle.scene.specs.declared.Answer.{Answer}
 use Rattle.scene.specs.Lent.{Lent}
@@ -59,6 +61,10 @@ places-length : (s : Lent) (rays : List Float) (n : ℕ) → length (places s ra
 unfolding places
 places-length s rays zero = refl
 places-length s rays (suc n) = snoc-length (places s rays n) _ ∙ ap (λ (k : ℕ). k + 1) (places-length s rays n) ∙ add-one n
+
+pub ray-is : (rays : List Float) (k : ℕ) (o d : Vec3) → o ≡ vectorAt rays (k * 6) → d ≡ vectorAt rays (k * 6 + 3) → _≡_ {A = Ray} (record { origin = o; direction = d }) (rayAt rays k)
+unfolding rayAt
+ray-is rays k o d e f = rw (e, f)
 
 pub place-is : (s : Lent) (rays : List Float) (k : ℕ) (r : Ray) (a : Answer) (p : Place) → r ≡ rayAt rays k → answered a ≡ walk s r → p ≡ placeOf (answered a) → p ≡ placeOf (walk s (rayAt rays k))
 place-is s rays k r a p e f g = g ∙ ap placeOf f ∙ ap (λ (z : Ray). placeOf (walk s z)) e

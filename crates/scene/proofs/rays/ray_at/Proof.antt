@@ -1,5 +1,5 @@
 -- By what the two reads ensure. Assumes nothing.
-use Rattle.scene.specs.Sky.{rayAt}
+use Rattle.scene.proofs.Room.{ray-is}
 use borrow.Author.Needs.{needs}
 use Rattle.scene.proofs.rays.ray_at.Statement.{statement}
 use Rattle.scene.proofs.rays.ray_at.Tie as tie
@@ -17,8 +17,7 @@ read-requires-2 : tie.Need-read-requires-2
 read-requires-2 c κs = search needs
 
 returns : tie.Need-returns
-unfolding rayAt
-returns c = cc
+returns c = ray-is _ _ _ _ (c .before .read .ensures) (c .read2 .ensures)
 
 pub ray-at-spec : {M : Type 1} → statement M
 ray-at-spec = tie.close (tie.spec mul-at read-requires add-read read-requires-2 returns)
