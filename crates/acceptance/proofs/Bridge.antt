@@ -15,7 +15,6 @@ use Rattle.builder.specs.Lists.{boxOf as grown-box, size as grown-size, depth a
 use Rattle.scene.specs.Lent.{Lent, lent, nodeAt, leftOf, rightOf}
 use Rattle.scene.specs.Walk.{misfit}
 use Rattle.scene.specs.Tree.{Tree, leaf, internal, boxOf, size, leaves, depth, held, Holds, Nested, Accepted}
-use Rattle.scene.specs.NearestHit.{Runs}
 
 abbrev pub asTree : Grown-tree → Tree
 asTree (grown-leaf b p c) = leaf b p c
@@ -38,13 +37,9 @@ depth-as : (t : Grown-tree) → depth (asTree t) ≡ grown-depth t
 depth-as (grown-leaf b p c) = refl
 depth-as (grown-fork b u v) = rw (depth-as u, depth-as v)
 
-pub runs-as : (a b : ℕ) (t : Grown-tree) → Grown-runs a b t → Runs a b (asTree t)
-runs-as a b (grown-leaf x p c) h = h
-runs-as a b (grown-fork x u v) h = (h .0, runs-as a (h .0) u (h .1), runs-as (h .0) b v (h .2))
-
-held-runs : (a b : ℕ) (t : Tree) → Runs a b t → b ≡ a + held t
-held-runs a b (leaf x p c) h = h .1
-held-runs a b (internal x u v) h = omega (arith, held-runs a (h .0) u (h .1), held-runs (h .0) b v (h .2))
+held-runs : (a b : ℕ) (t : Grown-tree) → Grown-runs a b t → b ≡ a + held (asTree t)
+held-runs a b (grown-leaf x p c) h = h .1
+held-runs a b (grown-fork x u v) h = omega (arith, held-runs a (h .0) u (h .1), held-runs (h .0) b v (h .2))
 
 -- ---- the lists hold it
 holds-as : (mesh : List Float) (index : List ℕ) (boxes : List Float) (links : List ℕ) (i : ℕ) (t : Grown-tree) → Grown-holds index boxes links i t → Holds (lent mesh index boxes links) i (asTree t)
@@ -94,5 +89,5 @@ accepted-as mesh index boxes links t one A = record {
   sized = omega (arith, size-as t, A .fits);
   shallow = rw (depth-as t) (A .shallow);
   nested = nested-as t (A .nested);
-  covers = omega (arith, held-runs 0 (length index) (asTree t) (runs-as 0 (length index) t (A .runs)));
+  covers = omega (arith, held-runs 0 (length index) t (A .runs));
 }

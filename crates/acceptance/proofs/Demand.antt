@@ -8,8 +8,6 @@ use lib.ListN.{length, take}
 use lib.Ieee.{Float}
 use Rattle.aabb.specs.declared.vector.Ray.{Ray}
 use Rattle.aabb.specs.Vector.{admittedRay}
-use Rattle.triangle.specs.declared.Hit.{Hit}
-use Rattle.triangle.specs.declared.Found.the-variants.{At}
 use Rattle.builder.specs.declared.Built.the-variants.{Tree as Grew}
 use Rattle.builder.specs.Build.{Outcome, built}
 use Rattle.builder.proofs.Successes.{success, exact, accepted as accepted-lists}
@@ -17,14 +15,15 @@ use Rattle.scene.specs.Lent.{Lent, lent, triangleCount}
 use Rattle.scene.specs.Answer.{Told, none}
 use Rattle.scene.specs.Walk.{over, walk}
 use Rattle.scene.specs.Tree.{Tree, size, leaves, Holds, Accepted, entered, reached}
-use Rattle.scene.specs.NearestHit.{Runs}
 use Rattle.scene.proofs.Accepting.{short, odd-size, accepted, few-tests}
-use Rattle.scene.proofs.NearestHit.{hit-lowest, walk-clear}
+use Rattle.scene.proofs.NearestHit.{walk-nearest, walk-clear}
+use Rattle.scene.proofs.SameHit.{same-leaves-hit, reordered-hit}
+use Rattle.scene.specs.Leaves.{leavesOf, SameLeaves, withIndex, Reordered}
 use Rattle.acceptance.specs.Handed.{handedAs, handed}
-use Rattle.acceptance.specs.Demand.{NearestLowest, Demand3}
-use Rattle.acceptance.proofs.Bridge.{asTree, size-as, leaves-as, runs-as, accepted-as}
+use Rattle.acceptance.specs.Demand.{Demand3}
+use Rattle.acceptance.proofs.Bridge.{asTree, size-as, leaves-as, accepted-as}
 
-module _ (s : Lent) (t : Tree) (r : Ray) (A : Accepted s t) (ranges : Runs 0 (length (s .index)) t) (R : T (admittedRay r)) where
+module _ (s : Lent) (t : Tree) (r : Ray) (A : Accepted s t) (R : T (admittedRay r)) where
   -- every tree that lists hold and a walk accepts, wherever it was built
   pub demand-3 : Demand3 s t r
   unfolding over
@@ -38,8 +37,8 @@ module _ (s : Lent) (t : Tree) (r : Ray) (A : Accepted s t) (ranges : Runs 0 (le
         triangle-tests = tests;
         most-boxes = omega (arith, boxes, short r t, odd-size t);
         most-triangles = omega (arith, tests, few-tests s t r A);
-        hit = λ h p. let w = hit-lowest s t r A R 0 (length (s .index)) ranges h (sym (ap (λ (a : Told). a .hit) e) ∙ p) in record { nearest = w .0; lowest = w .1 };
-        no-hit = λ p. walk-clear s t r A R p;
+        hit = walk-nearest s t r A R;
+        no-hit = walk-clear s t r A R;
       }
 
 -- ---- what is signed
@@ -51,6 +50,9 @@ pub record Signed (s : Lent) (nodes leaf-count : ℕ) (r : Ray) : Type 0 where
   pub leaves-are : leaves tree ≡ leaf-count
   pub odd : nodes + 1 ≡ 2 * leaf-count
   pub answer : Demand3 s tree r
+  -- Any accepted tree over the same triangles with the same leaves has the same hit, in whatever order it walks them, and so has any order of the index list within the leaves.
+  pub settled : (s′ : Lent) (t′ : Tree) → s .triangles ≡ s′ .triangles → Accepted s′ t′ → SameLeaves (leavesOf s tree) (leavesOf s′ t′) → walk s r .hit ≡ walk s′ r .hit
+  pub any-order : (order : List ℕ) → Reordered s order tree → walk s r .hit ≡ walk (withIndex s order) r .hit
 
 module _ (mesh : List Float) (index : List ℕ) (boxes : List Float) (links : List ℕ) (nodes leaf-count : ℕ) (r : Ray) where
   abbrev left : Outcome
@@ -70,14 +72,17 @@ module _ (mesh : List Float) (index : List ℕ) (boxes : List Float) (links : Li
       let A = accepted-lists mesh index boxes links nodes leaf-count left w in
       let X = exact mesh index boxes links nodes leaf-count left w in
       let size-is : size (asTree t) ≡ nodes = omega (arith, size-as t, w .nodes-are) in
+      let B = accepted-as mesh _ _ _ t (X .one-each) A in
       let leaves-is : leaves (asTree t) ≡ leaf-count = leaves-as t ∙ sym (w .leaves-are) in
       record {
         tree = asTree t;
-        held = accepted-as mesh _ _ _ t (X .one-each) A .holds;
+        held = B .holds;
         nodes-are = size-is;
         leaves-are = leaves-is;
         odd = omega (arith, odd-size (asTree t), size-is, leaves-is);
-        answer = demand-3 given (asTree t) r (accepted-as mesh _ _ _ t (X .one-each) A) (runs-as 0 _ t (A .runs)) R;
+        answer = demand-3 given (asTree t) r B R;
+        settled = λ s′ t′ m C L. same-leaves-hit given s′ (asTree t) t′ r m B C R L;
+        any-order = λ order O. reordered-hit given order (asTree t) r B O R;
       }
 
   -- Demand 3. For an unchanged built tree over its own triangles and an admitted ray.

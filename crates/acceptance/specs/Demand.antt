@@ -10,12 +10,7 @@ use Rattle.scene.specs.Lent.{Lent, triangleCount}
 use Rattle.scene.specs.Answer.{none}
 use Rattle.scene.specs.Walk.{walk}
 use Rattle.scene.specs.Tree.{Tree, leaves, entered, reached}
-use Rattle.scene.specs.NearestHit.{All, FirstNearest, NothingAt, Best}
-
--- the nearest found at the places, the lowest place in the index list winning a tie
-pub record NearestLowest (s : Lent) (r : Ray) (t : Tree) (h : Hit) : Type 0 where
-  pub nearest : FirstNearest s r (reached r t) h
-  pub lowest : All (Best s r h (nearest .place)) (reached r t)
+use Rattle.scene.specs.NearestHit.{All, NearestAt, NothingAt}
 
 pub record Demand3 (s : Lent) (t : Tree) (r : Ray) : Type 0 where
   pub served : walk s r .refusal ≡ none
@@ -26,6 +21,6 @@ pub record Demand3 (s : Lent) (t : Tree) (r : Ray) : Type 0 where
   -- so at most 2L-1 and n
   pub most-boxes : walk s r .boxes + 1 ≤ 2 * leaves t
   pub most-triangles : walk s r .triangles ≤ triangleCount (s .triangles)
-  -- the hit is the nearest found in those leaves, the lowest place in the index list winning a tie, none if there is none
-  pub hit : (h : Hit) → walk s r .hit ≡ At h → NearestLowest s r t h
+  -- the hit is the nearest found in those leaves, the lowest triangle number winning a tie, none if there is none
+  pub hit : (h : Hit) → walk s r .hit ≡ At h → NearestAt s r (reached r t) h
   pub no-hit : walk s r .hit ≡ Nothing → All (NothingAt s r) (reached r t)

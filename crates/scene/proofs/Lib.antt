@@ -6,6 +6,7 @@ pub mod Going
 pub mod Entrance
 pub mod Accepting
 pub mod NearestHit
+pub mod SameHit
 pub mod Sighting
 pub mod Straight
 pub mod Room

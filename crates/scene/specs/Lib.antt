@@ -6,3 +6,4 @@ pub mod Aim
 pub mod Tree
 pub mod NearestHit
 pub mod Sky
+pub mod Leaves

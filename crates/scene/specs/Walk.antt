@@ -4,7 +4,7 @@ use mathlib.Core.Bool.{Bool, not, _||_, cond}
 use mathlib.Core.List.{List, [], _∷_}
 use lib.Dec.{leb, ltb, eqb}
 use lib.ListN.{length, getD}
-use lib.Ieee.{Float, lt}
+use lib.Ieee.{Float, lt, le}
 use Rattle.order.specs.Number.{infinity}
 use Rattle.aabb.specs.declared.vector.Ray.{Ray}
 use Rattle.aabb.specs.Vector.{admittedRay}
@@ -32,14 +32,14 @@ start = record { boxes = 0; triangles = 0; nearest = Unmet }
 unfoldable pub boxed : Tally → Tally
 boxed a = record { boxes = a .boxes + 1; triangles = a .triangles; nearest = a .nearest }
 
-abbrev pub limit : Nearest → Float
-limit Unmet = infinity
-limit (Met t k) = t
+-- whether triangle k, found at t, replaces the hit: at a smaller t it does, and at numerically equal t if its number is lower
+unfoldable pub replaces : Nearest → ℕ → Float → Bool
+replaces Unmet k t = lt t infinity
+replaces (Met u j) k t = cond (ltb k j) (le t u) (lt t u)
 
--- strictly smaller t replaces the hit
 unfoldable pub nearer : Nearest → ℕ → Distance → Nearest
 nearer best k None = best
-nearer best k (To t) = cond (lt t (limit best)) (Met t k) best
+nearer best k (To t) = cond (replaces best k t) (Met t k) best
 
 -- what the test of triangle k leaves as the nearest
 unfoldable pub after : List Float → Ray → ℕ → Nearest → Nearest

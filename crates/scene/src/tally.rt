@@ -4,7 +4,7 @@ use triangle::Distance;
 use triangle::Triangle;
 ghost use mathlib.Core.Path.{_≡_};
 ghost use Prim.Native.Nat.{_<_, _^_};
-ghost use Rattle.scene.specs.Walk.{limit, nearer, after, boxed};
+ghost use Rattle.scene.specs.Walk.{replaces, nearer, after, boxed};
 
 // The hit so far.
 pub enum Nearest {
@@ -19,24 +19,27 @@ pub struct Tally {
     pub nearest: Nearest,
 }
 
-// The t that a hit must be less than.
-pub fn limit(best: Nearest) -> f64
-    ensures { λ r. ⌜ r ≡ limit best ⌝ }
+// Whether triangle `number`, found at t, replaces the hit so far: at a smaller t it does, and at an equal t if its number is lower.
+pub fn replaces(best: Nearest, number: u32, t: f64) -> bool
+    ensures { λ r. ⌜ r ≡ replaces best number t ⌝ }
 {
     match best {
-        Nearest::Unmet => order::infinity(),
-        Nearest::Met { t, number: _ } => t,
+        Nearest::Unmet => t < order::infinity(),
+        Nearest::Met {
+            t: least,
+            number: held,
+        } => { if number < held { t <= least } else { t < least } }
     }
 }
 
-// The nearer of the hit so far and what the test of triangle `number` found: strictly smaller t replaces the hit.
+// The nearer of the hit so far and what the test of triangle `number` found.
 pub fn nearer(best: Nearest, number: u32, found: Distance) -> Nearest
     ensures { λ r. ⌜ r ≡ nearer best number found ⌝ }
 {
     match found {
         Distance::None => best,
         Distance::To(t) => {
-            if t < limit(best) {
+            if replaces(best, number, t) {
                 Nearest::Met { t, number }
             } else {
                 best

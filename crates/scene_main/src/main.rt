@@ -470,7 +470,7 @@ fn shared(label: &[u8], left_or_first: u32, amount: u32, kind: u32) {
     );
 }
 
-// ---- ties: two triangles at the same t, in two leaves; the left one is met first
+// ---- ties: two triangles at the same t, in two leaves; the lower number wins, whichever is met first
 fn tie(label: &[u8], left: u32, right: u32) {
     let mesh = [
         0.0,
