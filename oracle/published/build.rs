@@ -4,7 +4,7 @@
 //!   stand, unchanged (`#[path]`).
 //! - scene.rs leans on nalgebra, so it is not compiled whole: the function
 //!   `intersect_blas` is cut out of it, and only `pub` is put before it.
-//! - Three changed texts stand beside them, each made by substitutions that
+//! - Four changed texts stand beside them, each made by substitutions that
 //!   fail where their needle is not found exactly once: see below.
 
 use std::path::{Path, PathBuf};
@@ -62,7 +62,9 @@ fn run() -> Result<(), String> {
     write("modules.rs", &modules)?;
     write("ordered.rs", &ordered(&builder)?)?;
     write("intersect_blas.rs", &visible(&scene)?)?;
-    write("counted.rs", &counted(&scene)?)?;
+    let counted = counted(&scene)?;
+    write("counted.rs", &counted)?;
+    write("ruled.rs", &ruled(&counted)?)?;
     write("cost_loop.rs", &cost_loop(&cost)?)
 }
 
@@ -104,6 +106,37 @@ fn counted(scene: &str) -> Result<String, String> {
         (entry, format!("triangle_tests += 1;\n                {entry}")),
         (".intersect(ray, instance_idx)", ".intersect(ray, tri_idx)".into()),
         ("\n    closest_hit\n}", "\n    (closest_hit, box_tests, triangle_tests)\n}".into()),
+    ] {
+        text = change(&text, needle, &by, "scene.rs")?;
+    }
+    Ok(text)
+}
+
+/// The counting text with document 02's rule at numerically equal t, the lowest
+/// triangle number wins; it also tells how many more are met at the hit's t.
+fn ruled(counted: &str) -> Result<String, String> {
+    let mut text = counted.to_string();
+    let told = "(Option<HitRecord>, u64, u64";
+    let end = "(closest_hit, box_tests, triangle_tests";
+    let test = "if hit.t < closest_t {";
+    let lower = "closest_hit.as_ref().is_some_and(|h| tri_idx < h.surface_index)";
+    for (needle, by) in [
+        (
+            "intersect_blas_counted(",
+            "intersect_blas_ruled(".to_string(),
+        ),
+        (
+            &format!("{told}) {{"),
+            format!("{told}, u64) {{\n    let mut tied = 0_u64;"),
+        ),
+        (&format!("{end})"), format!("{end}, tied)")),
+        (
+            test,
+            format!(
+                "if hit.t == closest_t {{ tied += 1; }} else {test} tied = 0; }}
+                    if hit.t < closest_t || (hit.t == closest_t && {lower}) {{"
+            ),
+        ),
     ] {
         text = change(&text, needle, &by, "scene.rs")?;
     }

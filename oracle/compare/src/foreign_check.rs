@@ -1,11 +1,11 @@
 //! Hostile lists and the published Rust: where the reading finds nothing to
-//! refuse, the Rust neither panics nor loops and must answer the same; where it
-//! refuses the 65th pending, the Rust must panic.
+//! refuse, the Rust neither panics nor loops and must answer the same, with
+//! document 02's rule at a tie; where it refuses the 65th pending, the Rust must
+//! panic.
 
 use crate::calls::{all, same, READING};
 use crate::hostile::Hostile;
-use crate::world;
-use published::counts::intersect_blas_counted;
+use crate::{ties, world};
 use std::panic::catch_unwind;
 
 pub fn check(case: &Hostile) -> Result<(), String> {
@@ -27,8 +27,12 @@ pub fn check(case: &Hostile) -> Result<(), String> {
         let tree = world::foreign(lists);
         let ray = world::ray(&case.ray);
         let triangles = world::triangles(&case.mesh);
-        intersect_blas_counted(&ray, &tree.nodes, &triangles, &tree.indices)
+        ties::walk(&ray, &tree, &triangles)
     });
+    let answer = match answer {
+        Ok(ruled) => ruled.map(|w| Ok((w.hit, w.boxes, w.tests)))?,
+        Err(panicked) => Err(panicked),
+    };
     match (number, answer) {
         (11, Err(_)) => Ok(()),
         (0, Ok((None, boxes, tests))) if told == [0, 0, boxes, tests] => Ok(()),

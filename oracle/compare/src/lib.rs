@@ -14,6 +14,7 @@ pub mod replay;
 pub mod run;
 pub mod show;
 pub mod sky_check;
+pub mod ties;
 pub mod world;
 
 /// The buffers of a tree, as lent.

@@ -1,11 +1,12 @@
 //! A mesh and its rays held to the published Rust: the tree to the second
-//! build (document 01's order), hits and counts to `intersect_blas` and cost.rs.
+//! build (document 01's order), hits and counts to `intersect_blas` (document
+//! 02's rule at a tie) and cost.rs.
 
 use crate::calls::{all, equal, same, Calls};
 use crate::random::Random;
 use crate::rays::Ray;
 use crate::world::{self, Tree};
-use crate::{node_room, reading_check, Lists};
+use crate::{node_room, reading_check, ties, Lists};
 use published::counts::{cost_loop, intersect_blas_counted};
 use published::scene::intersect_blas;
 
@@ -35,6 +36,10 @@ pub struct Tally {
     pub other_times: u64,
     pub rays: u64,
     pub hits: u64,
+    /// Of the hits: another triangle at the same t, and those of them where the
+    /// Rust does not answer the lowest number.
+    pub ties: u64,
+    pub moved: u64,
     pub rays_refused: u64,
 }
 
@@ -72,8 +77,10 @@ pub fn check(calls: &Calls, case: &Case, tally: &mut Tally) -> Result<(), String
             continue;
         }
         tally.hits += u64::from(number == 100);
-        walked(calls, &case.mesh, &lists, ray, &tree, &sum)
+        let ruled = walked(calls, &case.mesh, &lists, ray, &tree, &sum)
             .map_err(|e| format!("{e}; ray {ray:?}"))?;
+        tally.ties += u64::from(ruled.tied);
+        tally.moved += u64::from(ruled.moved);
         let ray = world::ray(ray);
         let [a, b] = [&plain, &tree].map(|t| {
             let hit = intersect_blas_counted(&ray, &t.nodes, &triangles, &t.indices).0;
@@ -174,8 +181,8 @@ fn built(calls: &Calls, case: &Case, tree: &Tree) -> Result<Option<Lists>, Strin
     Ok(Some(after))
 }
 
-/// One ray on a built tree: `intersect_blas` as published, its text that counts,
-/// the inner loop of cost.rs, and cost.rs unchanged.
+/// One ray on a built tree: `intersect_blas` as published, its texts that count,
+/// the inner loop of cost.rs, and cost.rs unchanged. What document 02 wants.
 fn walked(
     calls: &Calls,
     mesh: &[f64],
@@ -183,7 +190,7 @@ fn walked(
     lent_ray: &Ray,
     tree: &Tree,
     scene: &published::scene::BvhScene,
-) -> Result<(), String> {
+) -> Result<ties::Ruled, String> {
     let ray = world::ray(lent_ray);
     let triangles = &scene.triangles[0];
     let plain = intersect_blas(&ray, &tree.nodes, triangles, &tree.indices, 0);
@@ -196,6 +203,7 @@ fn walked(
     if plain.as_ref().map(world::numbers) != hit.as_ref().map(world::numbers) {
         return Err("oracle: the counting text does not answer as the published one".into());
     }
+    let ruled = ties::walk(&ray, tree, triangles)?;
     let (mut numbers, mut told) = ([-7.5; 7], [u64::MAX; 4]);
     let number = (calls.walk)(
         mesh,
@@ -206,7 +214,7 @@ fn walked(
         &mut numbers,
         &mut told,
     );
-    let (wanted, wanted_told, wanted_numbers) = match &hit {
+    let (wanted, wanted_told, wanted_numbers) = match &ruled.hit {
         None => (0, [0, 0, boxes, tests], [-7.5; 7]),
         Some(h) => {
             let front = u64::from(h.is_front_face);
@@ -222,5 +230,5 @@ fn walked(
             "walk answers {number} {told:?} {numbers:?}, the Rust {wanted} {wanted_told:?} {wanted_numbers:?}"
         ));
     }
-    Ok(())
+    Ok(ruled)
 }

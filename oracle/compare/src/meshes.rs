@@ -8,7 +8,7 @@ pub type Point = [f64; 3];
 /// Makes a mesh of about n triangles.
 type Make = fn(&mut Random, usize) -> Vec<f64>;
 
-pub const KINDS: [(&str, Make); 12] = [
+pub const KINDS: [(&str, Make); 13] = [
     ("none to six", |r, _| {
         let n = r.below(7);
         if r.one_in(2) {
@@ -28,6 +28,7 @@ pub const KINDS: [(&str, Make); 12] = [
     ("mixed scales", mixed),
     ("terrain with houses", terrain),
     ("not admitted", spoiled),
+    ("party walls", party_walls),
 ];
 
 fn put(mesh: &mut Vec<f64>, v: [Point; 3]) {
@@ -111,6 +112,41 @@ fn coincident(r: &mut Random, n: usize) -> Vec<f64> {
     for _ in 0..n {
         let k = 12 * r.below(few);
         mesh.extend(&from[k..k + 12]);
+    }
+    mesh
+}
+
+/// Walls across an axis, each modelled by two surveyors: with the same diagonal
+/// or the other one, from the same corner or a little on, wound one way or the
+/// other, and in any order. A ray along the axis meets both models at one t, in
+/// one leaf or in two.
+pub fn party_walls(r: &mut Random, n: usize) -> Vec<f64> {
+    let axis = r.below(3);
+    let (wide, high) = (r.whole(1, 9) as f64, r.whole(1, 9) as f64);
+    let mut triangles = Vec::new();
+    while triangles.len() < n {
+        let [x, y, z] = [0; 3].map(|_: u8| r.whole(0, 8) as f64);
+        for on in [0.0, r.pick(&[0.0, 0.0, 2.0])] {
+            let at = |i: f64, j: f64| {
+                let mut p = [0.0; 3];
+                p[axis] = x;
+                p[(axis + 1) % 3] = 2.0 * y + on + i * wide;
+                p[(axis + 2) % 3] = 2.0 * z + j * high;
+                p
+            };
+            let [a, b, c, d] = [at(0.0, 0.0), at(1.0, 0.0), at(1.0, 1.0), at(0.0, 1.0)];
+            let halves = r.pick(&[[[a, b, d], [c, d, b]], [[b, c, a], [d, a, c]]]);
+            let turned = r.one_in(2);
+            triangles.extend(halves.map(|[p, q, s]| if turned { [p, s, q] } else { [p, q, s] }));
+        }
+    }
+    if r.one_in(2) {
+        r.shuffle(&mut triangles);
+    }
+    triangles.truncate(n);
+    let mut mesh = Vec::new();
+    for v in triangles {
+        put(&mut mesh, v);
     }
     mesh
 }

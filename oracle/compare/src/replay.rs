@@ -3,10 +3,11 @@
 //! it answers at all) as it is written; a difference stops the command.
 
 use crate::calls::READING;
+use crate::hostile::{self, Hostile};
 use crate::mesh_check::{self, Case, Tally};
 use crate::random::Random;
 use crate::rays::{self, Ray};
-use crate::{functions, hostile, meshes, node_room, Lists};
+use crate::{foreign_check, functions, meshes, node_room, Lists};
 use std::collections::BTreeMap;
 
 pub const SEED: u64 = 8_128;
@@ -172,6 +173,32 @@ impl Kept {
     }
 }
 
+/// The same party wall twice, in two leaves and in one, and in both orders: a
+/// ray down x meets both at one t.
+fn wall_cases(file: &mut File) -> Result<(), String> {
+    let low = [8., 0., 0., 8., 4., 0., 8., 0., 4., -1., 0., 0.];
+    let high = [8., 4., 4., 8., 0., 4., 8., 4., 0., -1., 0., 0.];
+    let mesh = [low, high, low, high].concat();
+    let ray = |y: f64, z: f64| [0., y, z, 1., 0., 0.];
+    let rays = [ray(1., 1.), ray(3., 3.), ray(2., 2.), ray(0., 4.)];
+    let side = [8., 0., 0., 8., 4., 4.];
+    for index in [[0, 1, 2, 3], [2, 3, 0, 1], [3, 0, 2, 1], [2, 1, 0, 3]] {
+        for links in [vec![0, 4, 1], vec![1, 0, 0, 0, 2, 1, 2, 2, 1]] {
+            let lists = Lists {
+                index: index.to_vec(),
+                boxes: side.repeat(links.len() / 3),
+                links,
+            };
+            for ray in rays {
+                let (mesh, lists) = (mesh.clone(), lists.clone());
+                foreign_check::check(&Hostile { mesh, lists, ray })?;
+            }
+            file.walk(&mesh, &lists, &rays)?;
+        }
+    }
+    Ok(())
+}
+
 fn hostile_cases(file: &mut File, r: &mut Random) -> Result<(), String> {
     for (_, make) in hostile::KINDS {
         let mut kept = Kept(BTreeMap::new(), 5);
@@ -236,7 +263,8 @@ pub fn write() -> Result<(Vec<u8>, Answers), String> {
     let mut file = File::default();
     let mut r = Random::new(SEED);
     for (name, make) in meshes::KINDS {
-        if name.starts_with("chain") {
+        // The walls stand last: what was stored before them stays as it was.
+        if ["chain, deep", "party walls"].contains(&name) {
             continue;
         }
         for size in [0, 1, 4, 5, 6, 7, 9, 12, 20] {
@@ -254,6 +282,11 @@ pub fn write() -> Result<(Vec<u8>, Answers), String> {
     hostile_cases(&mut file, &mut r)?;
     slab_cases(&mut file, &mut r)?;
     triangle_cases(&mut file, &mut r)?;
+    wall_cases(&mut file)?;
+    for size in [5, 6, 12, 20] {
+        let mesh = meshes::party_walls(&mut r, size);
+        mesh_cases(&mut file, &mut r, mesh)?;
+    }
     let mut bytes = MAGIC.to_vec();
     bytes.extend(file.cases.to_le_bytes());
     bytes.extend(&file.bytes);

@@ -121,6 +121,10 @@ fn every_mesh(calls: &Calls, plan: &Plan) -> u64 {
         "  of those by fallback the Rust's own order gives {} other trees, and {} rays another hit there ({} with another t)",
         whole.other_trees, whole.other_hits, whole.other_times
     );
+    println!(
+        "  {} of the hits are tied at their t, and for {} of them the Rust keeps a higher number",
+        whole.ties, whole.moved
+    );
     found.end()
 }
 
@@ -136,6 +140,8 @@ fn plus(a: Tally, b: Tally) -> Tally {
         other_times: a.other_times + b.other_times,
         rays: a.rays + b.rays,
         hits: a.hits + b.hits,
+        ties: a.ties + b.ties,
+        moved: a.moved + b.moved,
         rays_refused: a.rays_refused + b.rays_refused,
     }
 }

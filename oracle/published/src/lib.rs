@@ -33,13 +33,15 @@ pub mod scene {
     }
 }
 
-/// The two texts that count: from scene.rs and from cost.rs.
+/// The texts that count: from scene.rs, as it stands and with document 02's rule
+/// at a tie, and from cost.rs.
 pub mod counts {
     use crate::builder::BvhNode;
     use crate::triangle::Triangle;
     use optics_core::{HitRecord, Ray};
 
     include!(concat!(env!("OUT_DIR"), "/counted.rs"));
+    include!(concat!(env!("OUT_DIR"), "/ruled.rs"));
     include!(concat!(env!("OUT_DIR"), "/cost_loop.rs"));
 }
 

@@ -1,4 +1,5 @@
-//! Module 5 of document 01: the walk, with every refusal in the order of steps.
+//! Module 5 of document 01: the walk, with every refusal in the order of steps,
+//! and document 02's rule at a tie.
 
 use crate::boxes::{slab, usable, Bounds, Ray};
 use crate::triangles::{admitted, meet, ray_admitted, triangle, Met};
@@ -112,8 +113,14 @@ fn leaf(
         }
         counts.triangles += 1;
         if let Some(met) = meet(&tested, ray) {
-            let nearest = best.map_or(f64::INFINITY, |(b, _)| b.numbers[0]);
-            if met.numbers[0] < nearest {
+            let replaces = match *best {
+                None => met.numbers[0] < f64::INFINITY,
+                Some((b, held)) => {
+                    let (t, least) = (met.numbers[0], b.numbers[0]);
+                    t < least || (t == least && entry < held)
+                }
+            };
+            if replaces {
                 *best = Some((met, entry));
             }
         }
