@@ -1,10 +1,10 @@
 -- Demand 3 holds of every accepted tree, and so of every tree that is built. Assumes nothing.
 use mathlib.Core.Path.{_≡_, refl, sym, ap, _∙_}
-use Prim.Native.Nat.{ℕ, _+_, _*_, _≤_}
+use Prim.Native.Nat.{ℕ, _+_, _*_}
 use native.Mathlib.Omega.{arith}
 use lib.Dec.{T}
 use mathlib.Core.List.{List}
-use lib.ListN.{length, take}
+use lib.ListN.{take}
 use lib.Ieee.{Float}
 use Rattle.aabb.specs.declared.vector.Ray.{Ray}
 use Rattle.aabb.specs.Vector.{admittedRay}
@@ -12,13 +12,13 @@ use Rattle.builder.specs.declared.Built.the-variants.{Tree as Grew}
 use Rattle.builder.specs.Build.{Outcome, built}
 use Rattle.builder.proofs.Successes.{success, exact, accepted as accepted-lists}
 use Rattle.scene.specs.Lent.{Lent, lent, triangleCount}
-use Rattle.scene.specs.Answer.{Told, none}
+use Rattle.scene.specs.Answer.{Told}
 use Rattle.scene.specs.Walk.{over, walk}
-use Rattle.scene.specs.Tree.{Tree, size, leaves, Holds, Accepted, entered, reached}
+use Rattle.scene.specs.Tree.{Tree, size, leaves, Holds, Accepted}
+use Rattle.scene.specs.Leaves.{leavesOf, SameLeaves, withIndex, Reordered}
 use Rattle.scene.proofs.Accepting.{short, odd-size, accepted, few-tests}
 use Rattle.scene.proofs.NearestHit.{walk-nearest, walk-clear}
 use Rattle.scene.proofs.SameHit.{same-leaves-hit, reordered-hit}
-use Rattle.scene.specs.Leaves.{leavesOf, SameLeaves, withIndex, Reordered}
 use Rattle.acceptance.specs.Handed.{handedAs, handed}
 use Rattle.acceptance.specs.Demand.{Demand3}
 use Rattle.acceptance.proofs.Bridge.{asTree, size-as, leaves-as, accepted-as}

@@ -151,6 +151,15 @@ pub fn party_walls(r: &mut Random, n: usize) -> Vec<f64> {
     mesh
 }
 
+/// The smallest mesh on which the Rust does not name the lowest of two tied:
+/// the same wall twice, across x at 10, and three others near 0; and a ray that
+/// meets it.
+pub fn wall_twice() -> (Vec<f64>, [f64; 6]) {
+    let wall = |x: f64| [x, 0., 0., x, 1., 0., x, 0., 1., -1., 0., 0.];
+    let mesh = [10., 10., 0., 1., 2.].map(wall).concat();
+    (mesh, [5., 0.25, 0.25, 1., 0., 0.])
+}
+
 /// Points and lines, some along an axis.
 fn degenerate(r: &mut Random, n: usize) -> Vec<f64> {
     let mut mesh = Vec::new();

@@ -7,7 +7,7 @@ use crate::hostile::{self, Hostile};
 use crate::mesh_check::{self, Case, Tally};
 use crate::random::Random;
 use crate::rays::{self, Ray};
-use crate::{foreign_check, functions, meshes, node_room, Lists};
+use crate::{foreign_check, functions, meshes, node_room, world, Lists};
 use std::collections::BTreeMap;
 
 pub const SEED: u64 = 8_128;
@@ -174,7 +174,7 @@ impl Kept {
 }
 
 /// The same party wall twice, in two leaves and in one, and in both orders: a
-/// ray down x meets both at one t.
+/// ray along x meets both at one t. And the smallest mesh whose own tree does so.
 fn wall_cases(file: &mut File) -> Result<(), String> {
     let low = [8., 0., 0., 8., 4., 0., 8., 0., 4., -1., 0., 0.];
     let high = [8., 4., 4., 8., 0., 4., 8., 4., 0., -1., 0., 0.];
@@ -196,7 +196,9 @@ fn wall_cases(file: &mut File) -> Result<(), String> {
             file.walk(&mesh, &lists, &rays)?;
         }
     }
-    Ok(())
+    let (mesh, ray) = meshes::wall_twice();
+    let lists = world::build(&world::triangles(&mesh)).lists();
+    file.walk(&mesh, &lists, &[ray])
 }
 
 fn hostile_cases(file: &mut File, r: &mut Random) -> Result<(), String> {

@@ -5,44 +5,30 @@ use compare::random::Random;
 use compare::{meshes, rays, ties, world};
 use published::builder::BvhNode;
 use published::counts::intersect_blas_counted;
-
-const fn wall(x: f64) -> [f64; 12] {
-    [x, 0., 0., x, 1., 0., x, 0., 1., -1., 0., 0.]
-}
-
-/// The same wall twice, at x = 10, and three others near x = 0.
-fn five() -> Vec<f64> {
-    [10., 10., 0., 1., 2.].map(wall).concat()
-}
-
-/// Down x, from between the walls.
-const RAY: [f64; 6] = [5., 0.25, 0.25, 1., 0., 0.];
-
-fn both(mesh: &[f64]) -> (usize, usize) {
-    let triangles = world::triangles(mesh);
-    let tree = world::build_ordered(&triangles).0;
-    let ray = world::ray(&RAY);
-    let rust = intersect_blas_counted(&ray, &tree.nodes, &triangles, &tree.indices);
-    let ruled = ties::walk(&ray, &tree, &triangles).unwrap();
-    let lists = tree.lists();
-    let (mut numbers, mut told) = ([0.; 7], [0; 4]);
-    let answer = (READING.walk)(
-        mesh,
-        &lists.index,
-        &lists.boxes,
-        &lists.links,
-        &RAY,
-        &mut numbers,
-        &mut told,
-    );
-    let number = ruled.hit.unwrap().surface_index;
-    assert_eq!((answer, told[0], numbers[0]), (100, number as u64, 5.));
-    (rust.0.unwrap().surface_index, number)
-}
+use published::scene::intersect_blas;
 
 #[test]
 fn five_triangles_show_it() {
-    assert_eq!(both(&five()), (1, 0));
+    let (mesh, lent_ray) = meshes::wall_twice();
+    let triangles = world::triangles(&mesh);
+    let tree = world::build(&triangles);
+    assert_eq!(tree.indices, [4, 3, 2, 1, 0]);
+    let ray = world::ray(&lent_ray);
+    let rust = intersect_blas(&ray, &tree.nodes, &triangles, &tree.indices, 0).unwrap();
+    let kept = intersect_blas_counted(&ray, &tree.nodes, &triangles, &tree.indices).0;
+    assert_eq!((rust.t, kept.unwrap().surface_index), (5., 1));
+    let lists = tree.lists();
+    let (mut numbers, mut told) = ([0.; 7], [0; 4]);
+    let answer = (READING.walk)(
+        &mesh,
+        &lists.index,
+        &lists.boxes,
+        &lists.links,
+        &lent_ray,
+        &mut numbers,
+        &mut told,
+    );
+    assert_eq!((answer, numbers[0], told[0]), (100, 5., 0));
 }
 
 /// Up to four triangles are one leaf, its list in ascending order: no tie there
@@ -50,8 +36,8 @@ fn five_triangles_show_it() {
 #[test]
 fn four_cannot() {
     for n in 0..5 {
-        let mesh = wall(10.).repeat(n);
-        let tree = world::build(&world::triangles(&mesh));
+        let mesh = &meshes::wall_twice().0[..12].repeat(n);
+        let tree = world::build(&world::triangles(mesh));
         assert_eq!(tree.nodes.len(), 1);
         assert!(tree.indices.into_iter().eq(0..n));
     }
