@@ -31,7 +31,7 @@ use Rattle.scene.specs.Lent.{Lent}
 use Rattle.scene.specs.Walk.{replaces as replaces-by, nearer as nearer-by, after, hitOf, over, walk}
 use Rattle.scene.specs.Tree.{Tree, leaf, internal, Holds, Accepted, places, reached, nearest as nearest-of}
 use Rattle.scene.proofs.Accepting.{accepted}
-use Rattle.scene.specs.NearestHit.{All, Some, finds, Ahead, NearestAt, NothingAt}
+use Rattle.scene.specs.NearestHit.{All, Some, Admitted, finds, Ahead, NearestAt, NothingAt}
 
 -- ---- with the whole hit carried, where the walk carries its t and its number
 unfoldable replaces : Found → Hit → Bool
@@ -244,12 +244,16 @@ in-index : (s : Lent) (r : Ray) (t : Tree) (i : ℕ) → Holds s i t → All (λ
 in-index s r (leaf b p c) i H = all-cond _ (passes r b) (places c p) (all-places (length (s .index)) c p (H .inside))
 in-index s r (internal b u v) i H = all-append _ (reached r u) (reached r v) (in-index s r u _ (H .1)) (in-index s r v _ (H .2))
 
+pub all-finite : (s : Lent) (r : Ray) → T (admittedRay r) → (ps : List ℕ) → All (Admitted s) ps → All (Finite s r) ps
+all-finite s r R ps a = all-map (λ p h g e. let k = getD (s .index) p 0 in strike-finite r (triangleAt (s .triangles) k) R h k g e) ps a
+
 -- ---- the theorems, of an accepted tree
 module _ (s : Lent) (t : Tree) (r : Ray) (A : Accepted s t) (R : T (admittedRay r)) where
-  pub reached-finite : All (Finite s r) (reached r t)
-  reached-finite =
-      all-map (λ p h g e. let k = getD (s .index) p 0 in strike-finite r (triangleAt (s .triangles) k) R (A .admitted k (A .entries p h)) k g e)
-      (reached r t) (in-index s r t 0 (A .holds))
+  pub reached-admitted : All (Admitted s) (reached r t)
+  reached-admitted = all-map (λ p h. A .admitted (getD (s .index) p 0) (A .entries p h)) (reached r t) (in-index s r t 0 (A .holds))
+
+  reached-finite : All (Finite s r) (reached r t)
+  reached-finite = all-finite s r R (reached r t) reached-admitted
 
   pub walk-hit : walk s r .hit ≡ hitAmong s r (reached r t)
   unfolding over

@@ -23,9 +23,9 @@ use Rattle.triangle.specs.Meeting.{distance, hitAt, found, strike}
 use Rattle.scene.specs.Lent.{Lent}
 use Rattle.scene.specs.Walk.{walk}
 use Rattle.scene.specs.Tree.{Tree, leaf, internal, Holds, Accepted, places, reached}
-use Rattle.scene.specs.NearestHit.{All, Some, finds, Ahead, NearestAt, NothingAt}
+use Rattle.scene.specs.NearestHit.{All, Some, Admitted, finds, Ahead, NearestAt, NothingAt}
 use Rattle.scene.specs.Leaves.{numbers, In, SameNumbers, Leaf, leavesOf, SameLeaf, SameLeaves, withIndex, SameWithin, Reordered}
-use Rattle.scene.proofs.NearestHit.{Finite, hitAmong, nearest-at, nothing-at, nowhere, reached-finite, walk-hit}
+use Rattle.scene.proofs.NearestHit.{Finite, hitAmong, nearest-at, nothing-at, nowhere, all-finite, reached-admitted, walk-hit}
 
 -- ---- some of a list
 some-left : {A : Type 0} (P : A → Type 0) (xs ys : List A) → Some P xs → Some P (xs ++ ys)
@@ -115,11 +115,17 @@ module _ (s s′ : Lent) (r : Ray) (mesh : s .triangles ≡ s′ .triangles) (ps
       let w = found-too (At h) (n .found) in
       all-one (λ p. (x : Hit) → finds s′ r p ≡ At x → Ahead g x) qs (m .ahead) (w .0) (w .1) h (w .2)
 
--- two lists of places that hold the same triangles leave the same hit
-pub same-nearest : (s s′ : Lent) (r : Ray) (ps qs : List ℕ) → s .triangles ≡ s′ .triangles → All (Finite s r) ps → All (Finite s′ r) qs
+-- two lists of places that hold the same admitted triangles leave an admitted ray the same hit
+pub same-nearest : (s s′ : Lent) (r : Ray) (ps qs : List ℕ) → s .triangles ≡ s′ .triangles → T (admittedRay r) → All (Admitted s) ps → All (Admitted s′) qs
     → SameNumbers (numbers s ps) (numbers s′ qs) → hitAmong s r ps ≡ hitAmong s′ r qs
-same-nearest s s′ r ps qs mesh P Q same = go (hitAmong s r ps) (hitAmong s′ r qs) refl refl
+same-nearest s s′ r ps qs mesh R F G same = go (hitAmong s r ps) (hitAmong s′ r qs) refl refl
   where
+    P : All (Finite s r) ps
+    P = all-finite s r R ps F
+
+    Q : All (Finite s′ r) qs
+    Q = all-finite s′ r R qs G
+
     go : (f g : Found) → hitAmong s r ps ≡ f → hitAmong s′ r qs ≡ g → f ≡ g
     go Nothing Nothing i j = refl
     go Nothing (At g) i j = absurd (no-miss s′ s r (sym mesh) qs ps (same .1) g (nearest-at s′ r qs Q g j) (nothing-at s r ps P i))
@@ -183,7 +189,7 @@ module _ (s s′ : Lent) (t t′ : Tree) (r : Ray) (mesh : s .triangles ≡ s′
   pub same-hit : SameNumbers (numbers s (reached r t)) (numbers s′ (reached r t′)) → walk s r .hit ≡ walk s′ r .hit
   same-hit same =
       walk-hit s t r A R
-      ∙ same-nearest s s′ r (reached r t) (reached r t′) mesh (reached-finite s t r A R) (reached-finite s′ t′ r B R) same
+      ∙ same-nearest s s′ r (reached r t) (reached r t′) mesh R (reached-admitted s t r A R) (reached-admitted s′ t′ r B R) same
       ∙ sym (walk-hit s′ t′ r B R)
 
   -- the leaves are the same, in whatever order they are walked and whatever the order of the index list within each: the same hit

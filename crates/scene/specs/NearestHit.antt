@@ -10,7 +10,7 @@ use Rattle.aabb.specs.declared.vector.Ray.{Ray}
 use Rattle.triangle.specs.declared.Hit.{Hit}
 use Rattle.triangle.specs.declared.Found.{Found}
 use Rattle.triangle.specs.declared.Found.the-variants.{At, Nothing}
-use Rattle.triangle.specs.Mesh.{triangleAt}
+use Rattle.triangle.specs.Mesh.{triangleAt, admittedTriangle}
 use Rattle.triangle.specs.Meeting.{strike}
 use Rattle.scene.specs.Lent.{Lent}
 
@@ -22,7 +22,11 @@ abbrev pub Some : {A : Type 0} → (A → Type 0) → List A → Type 0
 Some P [] = ⊥
 Some P (x ∷ xs) = P x ⊎ Some P xs
 
--- what the ray finds of the triangle at a place of the index list
+-- the triangle at a place of the index list is admitted
+abbrev pub Admitted : Lent → ℕ → Type 0
+Admitted s p = T (admittedTriangle (triangleAt (s .triangles) (getD (s .index) p 0)))
+
+-- what the ray finds of it
 abbrev pub finds : Lent → Ray → ℕ → Found
 finds s r p = strike r (triangleAt (s .triangles) (getD (s .index) p 0)) (getD (s .index) p 0)
 

@@ -399,7 +399,7 @@ fn triangles() {
     second(b"vertex NaN", nan, 0.0, 1.0, 0, 1);
     second(b"vertex over 2^40", 0.0, -1099511627777.0, 1.0, 0, 1);
     second(b"normal over 2", 0.0, 0.0, 2.5, 1, 0);
-    second(b"normal of 2", 0.0, 0.0, 2.0, 1, 0);
+    second(b"normal of 2", 0.0, 0.0, 2.0, 1, 1);
     second(b"not admitted, not met", nan, 0.0, 1.0, 0, 0);
     second(b"5 before 10", nan, 0.0, 1.0, 1, 2);
     second(b"10 before 5", nan, 0.0, 1.0, 2, 1);
