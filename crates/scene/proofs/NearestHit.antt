@@ -34,9 +34,12 @@ use Rattle.scene.proofs.Accepting.{accepted}
 use Rattle.scene.specs.NearestHit.{All, Some, Admitted, finds, Ahead, NearestAt, NothingAt}
 
 -- ---- with the whole hit carried, where the walk carries its t and its number
-unfoldable replaces : Found → Hit → Bool
-replaces Nothing h = lt (h .t) infinity
-replaces (At b) h = cond (ltb (h .triangle) (b .triangle)) (le (h .t) (b .t)) (lt (h .t) (b .t))
+abbrev bare : Found → Nearest
+bare Nothing = Unmet
+bare (At h) = Met (h .t) (h .triangle)
+
+abbrev replaces : Found → Hit → Bool
+replaces best h = replaces-by (bare best) (h .triangle) (h .t)
 
 unfoldable nearer : Found → Found → Found
 nearer best Nothing = best
@@ -47,7 +50,7 @@ nearest s r best [] = best
 nearest s r best (p ∷ ps) = nearest s r (nearer best (finds s r p)) ps
 
 same-replaces : (mesh : List Float) (r : Ray) (b : Nearest) (k : ℕ) (t : Float) → replaces (hitOf mesh r b) (hitAt r (triangleAt mesh k) k t) ≡ replaces-by b k t
-unfolding hitOf hitAt replaces replaces-by
+unfolding hitOf hitAt
 same-replaces mesh r Unmet k t = refl
 same-replaces mesh r (Met u j) k t = refl
 
@@ -78,21 +81,21 @@ ahead-trans f g h a b = (
   λ l. let i = a .1 (le-trans (g .t) (h .t) (f .t) (b .0) l) in let j = b .1 (le-trans (h .t) (f .t) (g .t) l (a .0)) in omega (arith, i, j),
 )
 
-replacing-ahead : (b h : Hit) → replaces (At b) h ≡ true → Ahead h b
-unfolding replaces
-replacing-ahead b h e = go (ltb (h .triangle) (b .triangle)) refl e
-  where
-    go : (q : Bool) → ltb (h .triangle) (b .triangle) ≡ q → cond q (le (h .t) (b .t)) (lt (h .t) (b .t)) ≡ true → Ahead h b
-    go true i e = (rw e tt, λ l. omega (arith, ltb-true (h .triangle) (b .triangle) i))
-    go false i e = earlier-ahead h b (rw e tt)
-
 kept-ahead : (b h : Hit) → T (real (b .t)) → T (real (h .t)) → replaces (At b) h ≡ false → Ahead b h
-unfolding replaces
+unfolding replaces-by
 kept-ahead b h B H e = go (ltb (h .triangle) (b .triangle)) refl e
   where
     go : (q : Bool) → ltb (h .triangle) (b .triangle) ≡ q → cond q (le (h .t) (b .t)) (lt (h .t) (b .t)) ≡ false → Ahead b h
     go true i e = earlier-ahead b h (not-le→lt (h .t) (b .t) H B (rw e tt))
     go false i e = (not-lt→le (b .t) (h .t) B H (rw e tt), λ l. ltb-false (h .triangle) (b .triangle) i)
+
+replacing-ahead : (b h : Hit) → replaces (At b) h ≡ true → Ahead h b
+unfolding replaces-by
+replacing-ahead b h e = go (ltb (h .triangle) (b .triangle)) refl e
+  where
+    go : (q : Bool) → ltb (h .triangle) (b .triangle) ≡ q → cond q (le (h .t) (b .t)) (lt (h .t) (b .t)) ≡ true → Ahead h b
+    go true i e = (rw e tt, λ l. omega (arith, ltb-true (h .triangle) (b .triangle) i))
+    go false i e = earlier-ahead h b (rw e tt)
 
 -- a finite t is less than the infinity
 finite-below : (x : Float) → T (finite x) → T (lt x infinity)
@@ -161,7 +164,7 @@ module _ (s : Lent) (r : Ray) where
 
   -- a finite t replaces no hit at all
   first-replaces : (x : Hit) → T (finite (x .t)) → replaces Nothing x ≡ false → ⊥
-  unfolding replaces
+  unfolding replaces-by
   first-replaces x f e = T-not (lt (x .t) infinity) (rw e tt) (finite-below (x .t) f)
 
   replacing : (best : Found) (x : Hit) → replaces best x ≡ true → NoWorse x best
