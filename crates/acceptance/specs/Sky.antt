@@ -8,15 +8,14 @@ use Rattle.triangle.specs.declared.Hit.{Hit}
 use Rattle.scene.specs.declared.rays.Place.{Place}
 use Rattle.scene.specs.Lent.{Lent, triangleCount}
 use Rattle.scene.specs.Tree.{Tree, leaves, entered, reached}
-use Rattle.scene.specs.NearestHit.{All, NothingAt}
-use Rattle.acceptance.specs.Demand.{NearestLowest}
+use Rattle.scene.specs.NearestHit.{All, NearestAt, NothingAt}
 
 -- the place tells the triangle and t of the nearest
 pub record TellsNearest (s : Lent) (t : Tree) (r : Ray) (p : Place) : Type 0 where
   pub hit : Hit
   pub triangle : p .which ≡ hit .triangle
   pub t-is : p .t ≡ hit .t
-  pub nearest : NearestLowest s r t hit
+  pub nearest : NearestAt s r (reached r t) hit
 
 pub record Demand3At (s : Lent) (t : Tree) (r : Ray) (p : Place) : Type 0 where
   -- a hit or a miss
