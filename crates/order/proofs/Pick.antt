@@ -102,3 +102,30 @@ arm-less t run x p = rw p
 
 pub arm-rest : (t b : Bool) (run x : Float) → t ≡ false → ne run run ≡ b → cond b x run ≡ cond (t || isNan run) x run
 arm-rest t b run x p q = rw (p, ← q, nan-test run)
+
+-- ---- beside a running number that is no NaN one comparison does, for the lesser and the greater alike: t is the comparison
+beside-is : (t : Bool) (run x : Float) → T (real run) → cond t x run ≡ cond (t || isNan run) x run
+unfolding isNan
+beside-is true run x p = refl
+beside-is false nan x p = absurd p
+beside-is false (inf s) x p = refl
+beside-is false (fin s m e) x p = refl
+
+pub lower-is : (run x : Float) → T (real run) → cond (lt x run) x run ≡ lesser run x
+unfolding lesser
+lower-is run x p = beside-is (lt x run) run x p
+
+pub higher-is : (run x : Float) → T (real run) → cond (lt run x) x run ≡ greater run x
+unfolding greater
+higher-is run x p = beside-is (lt run x) run x p
+
+-- and what it picks is no NaN either
+picks-real : (t : Bool) (run x : Float) → T (real run) → (T t → T (real x)) → T (real (cond t x run))
+picks-real true run x p h = h tt
+picks-real false run x p h = p
+
+pub lower-real : (run x : Float) → T (real run) → T (real (cond (lt x run) x run))
+lower-real run x p = picks-real (lt x run) run x p (λ h. le→real-l x run (lt→le x run h))
+
+pub higher-real : (run x : Float) → T (real run) → T (real (cond (lt run x) x run))
+higher-real run x p = picks-real (lt run x) run x p (λ h. le→real-r run x (lt→le run x h))

@@ -1,7 +1,8 @@
 // The float calls that Rattle lacks, by document 01's rules: the infinity, `abs`, `min`, `max` and `total_cmp`.
 // Each answers on every f64. The laws of the order and of rounding, which the other layers cite, stand in proofs/.
 ghost use mathlib.Core.Path.{_≡_};
-ghost use lib.Ieee.{binary64, toBits, ofBits};
+ghost use mathlib.Core.Bool.{cond};
+ghost use lib.Ieee.{binary64, toBits, ofBits, lt};
 ghost use Rattle.order.specs.Number.{infinity};
 ghost use Rattle.order.specs.Pick.{magnitude, lesser, greater};
 ghost use Rattle.order.specs.Total.{totalLess, lessNumber, minusZero};
@@ -50,6 +51,19 @@ pub fn greater(run: f64, x: f64) -> f64
         return x;
     }
     run
+}
+
+// Beside a running number that is no NaN, the lesser and the greater by one comparison (proofs/Pick.antt: `lower-is`, `higher-is`).
+pub fn lower(run: f64, x: f64) -> f64
+    ensures { λ r. ⌜ r ≡ cond (lt x run) x run ⌝ }
+{
+    if run > x { x } else { run }
+}
+
+pub fn higher(run: f64, x: f64) -> f64
+    ensures { λ r. ⌜ r ≡ cond (lt run x) x run ⌝ }
+{
+    if x > run { x } else { run }
 }
 
 // Whether x is -0, which no comparison tells from +0.
