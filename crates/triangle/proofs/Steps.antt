@@ -1,21 +1,23 @@
--- Each way out of the test of a ray against a triangle is what the definition says: the tests that led there decide it, in the file's order. Assumes nothing.
+-- Each way out of the test of a ray against a triangle is what the definition says: the tests that led there decide it, in the file's order. What is worked out of the
+-- vertices alone is the triangle's. Assumes nothing.
 use mathlib.Core.Path.{_≡_, refl, sym, ap, _∙_}
 use Prim.Native.Nat.{ℕ, _+_, _*_, min}
 use mathlib.Core.Bool.{Bool, true, false, not}
 use mathlib.Core.List.{List}
 use lib.ListN.{length}
 use lib.Ieee.{Float, binary64, add, lt, le}
-use Rattle.order.specs.Number.{nought, one, millionth, ten-billionth}
+use Rattle.order.specs.Number.{nought, one, three, millionth, ten-billionth}
 use Rattle.order.specs.Pick.{magnitude}
 use Rattle.aabb.specs.declared.vector.Vec3.{Vec3}
 use Rattle.aabb.specs.declared.vector.Ray.{Ray}
-use Rattle.aabb.specs.Vector.{negated, dot, pointAt, vectorAt}
+use Rattle.aabb.specs.Vector.{plus, divided, negated, dot, allWithin, pointAt, vectorAt}
 use Rattle.aabb.proofs.Tests.{vector-start, vector-from}
 use Rattle.triangle.specs.declared.Triangle.{Triangle}
+use Rattle.triangle.specs.declared.Corners.{Corners}
 use Rattle.triangle.specs.declared.Hit.{Hit}
 use Rattle.triangle.specs.declared.Distance.{Distance}
 use Rattle.triangle.specs.declared.Distance.the-variants.{To, None}
-use Rattle.triangle.specs.Mesh.{triangleAt}
+use Rattle.triangle.specs.Mesh.{triangleAt, centroidOf}
 use Rattle.triangle.specs.Meeting.{det, uOf, vOf, tOf, judged, distance, faces, hitAt}
 
 module _ (r : Ray) (a : Triangle) (d m : Float) (p : d ≡ det r a) (q : m ≡ magnitude d) where
@@ -73,3 +75,21 @@ pub triangle-starts : (l : List Float) (i at : ℕ) (a b c n : Vec3) → at ≡ 
     → triangle a b c n ≡ triangleAt l i
 unfolding triangleAt
 triangle-starts l i at a b c n p q r s t = cc (vector-start l (i * 12), vector-from l (i * 12) 3, vector-from l (i * 12) 6, vector-from l (i * 12) 9)
+
+-- ---- the vertices alone
+abbrev pub SameCorners : Corners → Triangle → Type 0
+SameCorners c a = (c .v0 ≡ a .v0) × (c .v1 ≡ a .v1) × (c .v2 ≡ a .v2)
+
+pub centroid-corners : (a : Triangle) (c : Corners) (r : Vec3) → SameCorners c a → r ≡ divided (plus (plus (c .v0) (c .v1)) (c .v2)) three → r ≡ centroidOf a
+unfolding centroidOf
+centroid-corners a c r p e = cc (p .0, p .1, p .2)
+
+pub distance-corners : (r : Ray) (a : Triangle) (c : Corners) (d : Distance) → SameCorners c a → ((normal : Vec3) → d ≡ distance r (triangle (c .v0) (c .v1) (c .v2) normal)) → d ≡ distance r a
+distance-corners r a c d p e = e (a .normal) ∙ ap (distance r) (whole (c .v0) (c .v1) (c .v2) (p .0) (p .1) (p .2))
+  where
+    whole : (v0 v1 v2 : Vec3) → v0 ≡ a .v0 → v1 ≡ a .v1 → v2 ≡ a .v2 → triangle v0 v1 v2 (a .normal) ≡ a
+    whole v0 v1 v2 p q s = rw (p, q, s)
+
+-- ---- a vector tested where it stands in the mesh
+pub stands-within : (limit : Float) (v w : Vec3) (b x : Bool) → b ≡ allWithin limit v → v ≡ w → b ≡ x → allWithin limit w ≡ x
+stands-within limit v w b x p q h = ap (allWithin limit) (sym q) ∙ sym p ∙ h

@@ -7,7 +7,8 @@ use aabb::Vec3;
 ghost use mathlib.Core.Path.{_≡_};
 ghost use Prim.Native.Nat.{_+_, _≤_};
 ghost use lib.ListN.{length};
-ghost use Rattle.aabb.specs.Vector.{vectorAt};
+ghost use Rattle.order.specs.Number.{three};
+ghost use Rattle.aabb.specs.Vector.{vectorAt, plus, divided};
 ghost use Rattle.triangle.specs.Mesh.{triangleAt, boundsOf, centroidOf, admittedTriangle};
 ghost use Rattle.triangle.specs.Meeting.{distance, hitAt, strike};
 
@@ -16,6 +17,13 @@ pub struct Triangle {
     pub v1: Vec3,
     pub v2: Vec3,
     pub normal: Vec3,
+}
+
+// The vertices of a triangle, for what needs no normal: a whole triangle by value would go through memory.
+pub struct Corners {
+    pub v0: Vec3,
+    pub v1: Vec3,
+    pub v2: Vec3,
 }
 
 // What a ray finds where it meets a triangle: the distance, the point, the normal on the ray's side, whether that side is the front, and the triangle's number.
@@ -67,11 +75,21 @@ impl Triangle {
         Aabb::from_points(self.v0, self.v1, self.v2)
     }
 
-    // ((v0 + v1) + v2) / 3, by component.
+    // The three vertices.
+    pub fn corners(self) -> Corners
+        ensures { λ r. ⌜ (r .v0 ≡ self .v0) × (r .v1 ≡ self .v1) × (r .v2 ≡ self .v2) ⌝ }
+    {
+        let v0 = self.v0;
+        let v1 = self.v1;
+        let v2 = self.v2;
+        Corners { v0, v1, v2 }
+    }
+
+    // Their centroid.
     pub fn centroid(self) -> Vec3
         ensures { λ r. ⌜ r ≡ centroidOf self ⌝ }
     {
-        self.v0.plus(self.v1).plus(self.v2).divided(3.0)
+        self.corners().centroid()
     }
 
     // Whether it is admitted: vertex numbers finite, magnitude at most 2^40; normal numbers finite, magnitude at most 2.
@@ -90,39 +108,11 @@ impl Triangle {
         false
     }
 
-    // How far along the ray the triangle is met: the test of the Rust, step by step, without the hit.
+    // How far along the ray the triangle is met, without the hit.
     pub fn distance(self, ray: Ray) -> Distance
         ensures { λ r. ⌜ r ≡ distance ray self ⌝ }
     {
-        let edge1 = self.v1.minus(self.v0);
-        let edge2 = self.v2.minus(self.v0);
-        let pvec = ray.direction.cross(edge2);
-        let det = edge1.dot(pvec);
-        if order::magnitude(det) < 1e-10 {
-            return Distance::None;
-        }
-        let inv_det = 1.0 / det;
-        let tvec = ray.origin.minus(self.v0);
-        let u = tvec.dot(pvec) * inv_det;
-        if !(0.0 <= u) {
-            return Distance::None;
-        }
-        if !(u <= 1.0) {
-            return Distance::None;
-        }
-        let qvec = tvec.cross(edge1);
-        let v = ray.direction.dot(qvec) * inv_det;
-        if v < 0.0 {
-            return Distance::None;
-        }
-        if u + v > 1.0 {
-            return Distance::None;
-        }
-        let t = edge2.dot(qvec) * inv_det;
-        if t <= 1e-6 {
-            return Distance::None;
-        }
-        Distance::To(t)
+        self.corners().distance(ray)
     }
 
     // The hit at distance t: front when direction·normal < 0, otherwise the normal is negated.
@@ -159,6 +149,84 @@ impl Triangle {
             Distance::To(t) => Found::At(self.hit(ray, t, number)),
         }
     }
+}
+
+impl Corners {
+    // Of triangle i of a mesh; a NaN for each number beyond the mesh's end.
+    pub fn read(mesh: &[f64], i: usize) -> Corners
+        ensures { λ r. ⌜ (r .v0 ≡ triangleAt (now (mesh .entry)) i .v0) × (r .v1 ≡ triangleAt (now (mesh .entry)) i .v1) × (r .v2 ≡ triangleAt (now (mesh .entry)) i .v2) ⌝ }
+    {
+        if i < mesh.len() / 12 {
+            let at = i * 12;
+            let v0 = three(mesh, at);
+            let v1 = three(mesh, at + 3);
+            let v2 = three(mesh, at + 6);
+            return Corners { v0, v1, v2 };
+        }
+        Triangle::read(mesh, i).corners()
+    }
+
+    // ((v0 + v1) + v2) / 3, by component.
+    pub fn centroid(self) -> Vec3
+        ensures { λ r. ⌜ r ≡ divided (plus (plus (self .v0) (self .v1)) (self .v2)) three ⌝ }
+    {
+        self.v0.plus(self.v1).plus(self.v2).divided(3.0)
+    }
+
+    // How far along the ray the triangle is met, whatever its normal: the test of the Rust, step by step.
+    pub fn distance(self, ray: Ray) -> Distance
+        ensures { λ r. ⌜ ((normal : Vec3) → r ≡ distance ray (record { v0 = self .v0; v1 = self .v1; v2 = self .v2; normal = normal })) ⌝ }
+    {
+        let edge1 = self.v1.minus(self.v0);
+        let edge2 = self.v2.minus(self.v0);
+        let pvec = ray.direction.cross(edge2);
+        let det = edge1.dot(pvec);
+        if order::magnitude(det) < 1e-10 {
+            return Distance::None;
+        }
+        let inv_det = 1.0 / det;
+        let tvec = ray.origin.minus(self.v0);
+        let u = tvec.dot(pvec) * inv_det;
+        if !(0.0 <= u) {
+            return Distance::None;
+        }
+        if !(u <= 1.0) {
+            return Distance::None;
+        }
+        let qvec = tvec.cross(edge1);
+        let v = ray.direction.dot(qvec) * inv_det;
+        if v < 0.0 {
+            return Distance::None;
+        }
+        if u + v > 1.0 {
+            return Distance::None;
+        }
+        let t = edge2.dot(qvec) * inv_det;
+        if t <= 1e-6 {
+            return Distance::None;
+        }
+        Distance::To(t)
+    }
+}
+
+// Whether triangle i of a mesh is admitted: each vector is tested where it stands, so that no whole triangle goes through memory.
+pub fn admitted_at(mesh: &[f64], i: usize) -> bool
+    ensures { λ r. ⌜ r ≡ admittedTriangle (triangleAt (now (mesh .entry)) i) ⌝ }
+{
+    if i < mesh.len() / 12 {
+        let at = i * 12;
+        if three(mesh, at).within(1099511627776.0) {
+            if three(mesh, at + 3).within(1099511627776.0) {
+                if three(mesh, at + 6).within(1099511627776.0) {
+                    return three(mesh, at + 9).within(2.0);
+                }
+                return false;
+            }
+            return false;
+        }
+        return false;
+    }
+    Triangle::read(mesh, i).admitted()
 }
 
 // Three numbers of a mesh that are there: one test of a triangle's place does for all twelve.

@@ -1,21 +1,17 @@
--- By what the calls ensure. Assumes nothing.
-use Rattle.triangle.specs.Mesh.{centroidOf}
+-- By what the vertices give. Assumes nothing.
 use borrow.Author.Needs.{needs}
+use Rattle.triangle.proofs.Steps.{centroid-corners}
 use Rattle.triangle.proofs.Triangle.centroid.Statement.{statement}
 use Rattle.triangle.proofs.Triangle.centroid.Tie as tie
 
-plus-requires : tie.Need-plus-requires
-plus-requires c κs = search needs
+corners-requires : tie.Need-corners-requires
+corners-requires c κs = search needs
 
-plus-requires-2 : tie.Need-plus-requires-2
-plus-requires-2 c κs = search needs
-
-divided-requires : tie.Need-divided-requires
-divided-requires c κs = search needs
+centroid-requires : tie.Need-centroid-requires
+centroid-requires c κs = search needs
 
 returns : tie.Need-returns
-unfolding centroidOf
-returns c = cc
+returns c = centroid-corners _ _ _ (c .before .corners .ensures) (c .centroid .ensures)
 
 pub centroid-spec : {M : Type 1} → statement M
-centroid-spec = tie.close (tie.spec plus-requires plus-requires-2 divided-requires returns)
+centroid-spec = tie.close (tie.spec corners-requires centroid-requires returns)

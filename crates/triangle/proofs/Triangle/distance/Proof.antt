@@ -1,142 +1,17 @@
--- What is known of det, u, v and t where each is worked out; then each way out by the tests that led there. Assumes nothing.
-use mathlib.Core.Path.{_≡_}
-use lib.Ieee.{binary64, mul, div}
-use borrow.Author.Tests.{not-true, not-false}
-use Rattle.order.specs.Number.{one}
-use Rattle.triangle.specs.Meeting.{edge1, edge2, pvec, det, invDet, tvec, qvec, uOf, vOf, tOf}
-use Rattle.triangle.proofs.Steps.{none-det, none-u, none-u2, none-v, none-uv, none-t, to-t}
+-- By what the vertices give. Assumes nothing.
 use borrow.Author.Needs.{needs}
+use Rattle.triangle.proofs.Steps.{distance-corners}
 use Rattle.triangle.proofs.Triangle.distance.Statement.{statement}
 use Rattle.triangle.proofs.Triangle.distance.Tie as tie
 
-det-known : (c : tie.After-dot) → let a = c .before .before .before .before .args in c .dot .result ≡ det (a .ray) (a .self)
-unfolding det edge1 pvec edge2
-det-known c = cc
+corners-requires : tie.Need-corners-requires
+corners-requires c κs = search needs
 
-u-known : (c : tie.After-dot2)
-    → let d = c .before .before .before .before in let a = d .before .before .before .before .args in mul binary64 (c .dot2 .result) (div binary64 one (d .dot .result)) ≡ uOf (a .ray) (a .self)
-unfolding uOf tvec pvec edge2 invDet
-u-known c = cc (det-known (c .before .before .before .before))
-
-v-known : (c : tie.After-dot3)
-    → let d = c .before .before .before .before .before .before .before .before in let a = d .before .before .before .before .args in
-    mul binary64 (c .dot3 .result) (div binary64 one (d .dot .result)) ≡ vOf (a .ray) (a .self)
-unfolding vOf qvec tvec edge1 invDet
-v-known c = cc (det-known (c .before .before .before .before .before .before .before .before))
-
-t-known : (c : tie.After-dot4)
-    → let d = c .before .before .before .before .before .before .before .before .before .before .before in let a = d .before .before .before .before .args in
-    mul binary64 (c .dot4 .result) (div binary64 one (d .dot .result)) ≡ tOf (a .ray) (a .self)
-unfolding tOf qvec tvec edge1 edge2 invDet
-t-known c = cc (det-known (c .before .before .before .before .before .before .before .before .before .before .before))
-
-minus-requires : tie.Need-minus-requires
-minus-requires c κs = search needs
-
-minus-requires-2 : tie.Need-minus-requires-2
-minus-requires-2 c κs = search needs
-
-cross-requires : tie.Need-cross-requires
-cross-requires c κs = search needs
-
-dot-requires : tie.Need-dot-requires
-dot-requires c κs = search needs
-
-magnitude-requires : tie.Need-magnitude-requires
-magnitude-requires c κs = search needs
+distance-requires : tie.Need-distance-requires
+distance-requires c κs = search needs
 
 returns : tie.Need-returns
-returns c = let m = c .before in none-det _ _ _ _ (det-known (m .before)) (m .magnitude .ensures) (c .if1 .taken)
-
-minus-requires-3 : tie.Need-minus-requires-3
-minus-requires-3 c κs = search needs
-
-dot-requires-2 : tie.Need-dot-requires-2
-dot-requires-2 c κs = search needs
-
-returns-2 : tie.Need-returns-2
-returns-2 c =
-    let f = c .before .before .before in
-    let m = f .before in
-    none-u _ _ _ _ (det-known (m .before)) (m .magnitude .ensures) (f .if1 .left) _ (u-known (c .before)) (not-true _ (c .if2 .taken))
-
-returns-3 : tie.Need-returns-3
-returns-3 c =
-    let low = c .before in
-    let f = low .before .before .before in
-    let m = f .before in
-    none-u2 _ _ _ _ (det-known (m .before)) (m .magnitude .ensures) (f .if1 .left) _ (u-known (low .before)) (not-false _ (low .if2 .left)) (not-true _ (c .if3 .taken))
-
-cross-requires-2 : tie.Need-cross-requires-2
-cross-requires-2 c κs = search needs
-
-dot-requires-3 : tie.Need-dot-requires-3
-dot-requires-3 c κs = search needs
-
-returns-4 : tie.Need-returns-4
-returns-4 c =
-    let d = c .before in
-    let high = d .before .before in
-    let low = high .before in
-    let f = low .before .before .before in
-    let m = f .before in
-    none-v _ _ _ _ (det-known (m .before)) (m .magnitude .ensures) (f .if1 .left) _ (u-known (low .before)) (not-false _ (low .if2 .left)) (not-false _ (high .if3 .left)) _ (v-known d) (c .if4 .taken)
-
-returns-5 : tie.Need-returns-5
-returns-5 c =
-    let above = c .before in
-    let d = above .before in
-    let high = d .before .before in
-    let low = high .before in
-    let f = low .before .before .before in
-    let m = f .before in
-    none-uv _ _ _ _ (det-known (m .before)) (m .magnitude .ensures) (f .if1 .left) _ (u-known (low .before)) (not-false _ (low .if2 .left)) (not-false _ (high .if3 .left)) _ (v-known d) (above .if4 .left) (c .if5 .taken)
-
-dot-requires-4 : tie.Need-dot-requires-4
-dot-requires-4 c κs = search needs
-
-returns-6 : tie.Need-returns-6
-returns-6 c =
-    let inside = c .before .before in
-    let above = inside .before in
-    let d = above .before in
-    let high = d .before .before in
-    let low = high .before in
-    let f = low .before .before .before in
-    let m = f .before in
-    none-t _ _ _ _ (det-known (m .before)) (m .magnitude .ensures) (f .if1 .left) _ (u-known (low .before)) (not-false _ (low .if2 .left)) (not-false _ (high .if3 .left)) _ (v-known d) (above .if4 .left) (inside .if5 .left)
-    _ (t-known (c .before)) (c .if6 .taken)
-
-returns-7 : tie.Need-returns-7
-returns-7 c =
-    let inside = c .before .before in
-    let above = inside .before in
-    let d = above .before in
-    let high = d .before .before in
-    let low = high .before in
-    let f = low .before .before .before in
-    let m = f .before in
-    to-t _ _ _ _ (det-known (m .before)) (m .magnitude .ensures) (f .if1 .left) _ (u-known (low .before)) (not-false _ (low .if2 .left)) (not-false _ (high .if3 .left)) _ (v-known d) (above .if4 .left) (inside .if5 .left)
-    _ (t-known (c .before)) (c .if6 .left)
+returns c = distance-corners _ _ _ _ (c .before .corners .ensures) (c .distance .ensures)
 
 pub distance-spec : {M : Type 1} → statement M
-distance-spec =
-    tie.close
-    (tie.spec
-    minus-requires
-    minus-requires-2
-    cross-requires
-    dot-requires
-    magnitude-requires
-    returns
-    minus-requires-3
-    dot-requires-2
-    returns-2
-    returns-3
-    cross-requires-2
-    dot-requires-3
-    returns-4
-    returns-5
-    dot-requires-4
-    returns-6
-    returns-7)
+distance-spec = tie.close (tie.spec corners-requires distance-requires returns)
