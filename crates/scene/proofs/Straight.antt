@@ -3,11 +3,12 @@
 use mathlib.Core.Path.{_≡_, refl, sym, ap, _∙_}
 use mathlib.Core.Bool.{Bool, true, false, not, _||_, cond}
 use lib.Dec.{T}
-use lib.Ieee.{Float, binary64, sub, mul, lt, le, isNan}
+use lib.Ieee.{Float, binary64, sub, mul, lt, le}
 use Rattle.order.specs.Number.{real, nought, infinity}
 use Rattle.order.specs.Pick.{lesser, greater}
 use Rattle.order.proofs.Numbers.{nought-is, infinity-is}
 use Rattle.order.proofs.Order.{lt→le, le→real-l, le→real-r, le-refl, le-trans, lt-le-trans, le-lt-trans}
+use Rattle.order.proofs.Pick.{lower-is as one-lower, higher-is as one-higher}
 use Rattle.aabb.specs.declared.vector.Ray.{Ray}
 use Rattle.aabb.specs.declared.bounds.Aabb.{Aabb}
 use Rattle.aabb.specs.declared.slab.Span.{Span}
@@ -20,24 +21,14 @@ use Rattle.scene.specs.Aim.{sighted, aimed, narrowedBy, higher, lower, c
 use Rattle.scene.proofs.Sighting.{on-x, on-y, on-z}
 
 -- ---- a running number that is no NaN
-number-is : (x : Float) → T (real x) → isNan x ≡ false
-unfolding isNan
-number-is lib.Ieee.nan h = absurd h
-number-is (lib.Ieee.inf s) h = refl
-number-is (lib.Ieee.fin s m e) h = refl
-
-or-none : (t : Bool) → (t || false) ≡ t
-or-none true = refl
-or-none false = refl
-
 module _ (run x : Float) (p : T (real run)) where
   higher-is : higher run x ≡ greater run x
-  unfolding higher greater
-  higher-is = rw (number-is run p, or-none (lt run x))
+  unfolding higher
+  higher-is = one-higher run x p
 
   lower-is : lower run x ≡ lesser run x
-  unfolding lower lesser
-  lower-is = rw (number-is run p, or-none (lt x run))
+  unfolding lower
+  lower-is = one-lower run x p
 
   grows : T (le run (higher run x))
   unfolding higher

@@ -7,7 +7,7 @@ use aabb::Span;
 ghost use mathlib.Core.Path.{_≡_};
 ghost use mathlib.Core.Bool.{_||_};
 ghost use Rattle.aabb.specs.Slab.{first, second, unlessLater, slabFrom, isPassed, passes};
-ghost use Rattle.scene.specs.Aim.{sighted, aimed, narrowedBy, higher, lower, clippedBy, straight};
+ghost use Rattle.scene.specs.Aim.{sighted, aimed, narrowedBy, clippedBy, straight};
 
 // One axis of a ray: its origin there, 1/dir, and whether |dir| < 1e-12.
 pub struct Sight {
@@ -54,19 +54,6 @@ fn second(t0: f64, t1: f64) -> f64
     ensures { λ r. ⌜ r ≡ second t0 t1 ⌝ }
 {
     if t0 > t1 { t0 } else { t1 }
-}
-
-// The greater and the lesser of a running number and another; the running one is kept beside a NaN.
-fn higher(run: f64, x: f64) -> f64
-    ensures { λ r. ⌜ r ≡ higher run x ⌝ }
-{
-    if run < x { x } else { run }
-}
-
-fn lower(run: f64, x: f64) -> f64
-    ensures { λ r. ⌜ r ≡ lower run x ⌝ }
-{
-    if x < run { x } else { run }
 }
 
 // Missed where enter > exit.
@@ -117,8 +104,8 @@ impl Sight {
     {
         let t0 = (min - self.origin) * self.inv;
         let t1 = (max - self.origin) * self.inv;
-        let enter = higher(past.enter, first(t0, t1));
-        let exit = lower(past.exit, second(t0, t1));
+        let enter = order::higher(past.enter, first(t0, t1));
+        let exit = order::lower(past.exit, second(t0, t1));
         Reach { enter, exit }
     }
 }

@@ -6,7 +6,6 @@ use crate::tally;
 use crate::tally::Nearest;
 use crate::tally::Tally;
 use aabb::Ray;
-use triangle::Triangle;
 ghost use mathlib.Core.Path.{_≡_};
 ghost use Prim.Native.Nat.{_+_, _<_, _≤_, _^_};
 ghost use lib.ListN.{length};
@@ -35,7 +34,7 @@ pub fn judge(triangles: &[f64], index: &[u32], first: usize, count: usize) -> Ve
                 at: place as u64,
             };
         }
-        if !Triangle::read(triangles, number as usize).admitted() {
+        if !triangle::admitted_at(triangles, number as usize) {
             return Verdict::Unfit {
                 number: 5,
                 at: number as u64,

@@ -1,7 +1,9 @@
 // A node of the lent lists: six f64 of box, three u32 of links.
 use aabb::Aabb;
+use aabb::Vec3;
 ghost use mathlib.Core.Path.{_≡_};
 ghost use Prim.Native.Nat.{_<_};
+ghost use Rattle.aabb.specs.Bounds.{boxAt};
 ghost use Rattle.scene.specs.Lent.{nodeCount, nodeAt, sound, leftOf, rightOf};
 
 pub struct Node {
@@ -11,13 +13,35 @@ pub struct Node {
     pub kind: u32,
 }
 
+// Box i: one test of its place does for all six numbers.
+fn box_at(boxes: &[f64], i: usize) -> Aabb
+    ensures { λ r. ⌜ r ≡ boxAt (now (boxes .entry)) i ⌝ }
+{
+    if i < boxes.len() / 6 {
+        let at = i * 6;
+        let min = Vec3 {
+            x: boxes[at],
+            y: boxes[at + 1],
+            z: boxes[at + 2],
+        };
+        let top = at + 3;
+        let max = Vec3 {
+            x: boxes[top],
+            y: boxes[top + 1],
+            z: boxes[top + 2],
+        };
+        return Aabb { min, max };
+    }
+    Aabb::read(boxes, i)
+}
+
 impl Node {
     // Node i.
     pub fn read(boxes: &[f64], links: &[u32], i: usize) -> Node
         requires { ⌜ i < nodeCount (now links) ⌝ }
         ensures { λ r. ⌜ r ≡ nodeAt (now (boxes .entry)) (now (links .entry)) i ⌝ }
     {
-        let bounds = Aabb::read(boxes, i);
+        let bounds = box_at(boxes, i);
         let left_or_first = links[i * 3];
         let count = links[i * 3 + 1];
         let kind = links[i * 3 + 2];

@@ -1,7 +1,7 @@
 // What a walk has counted and found so far. Of the hit only t and the triangle's number are carried: the rest is made once, at the end.
 use aabb::Ray;
+use triangle::Corners;
 use triangle::Distance;
-use triangle::Triangle;
 ghost use mathlib.Core.Path.{_≡_};
 ghost use Prim.Native.Nat.{_<_, _^_};
 ghost use Rattle.scene.specs.Walk.{replaces, nearer, after, boxed};
@@ -52,7 +52,7 @@ pub fn nearer(best: Nearest, number: u32, found: Distance) -> Nearest
 pub fn after(triangles: &[f64], ray: Ray, number: u32, best: Nearest) -> Nearest
     ensures { λ r. ⌜ r ≡ after (now (triangles .entry)) ray number best ⌝ }
 {
-    let found = Triangle::read(triangles, number as usize).distance(ray);
+    let found = Corners::read(triangles, number as usize).distance(ray);
     nearer(best, number, found)
 }
 

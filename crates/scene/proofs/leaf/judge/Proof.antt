@@ -1,10 +1,9 @@
 -- The loop's invariant: the entries from here on have the verdict of all of them. Assumes nothing.
 use Prim.Native.Nat.{_-_}
-use mathlib.Core.Path.{refl, sym, ap, _∙_}
+use mathlib.Core.Path.{refl, sym, _∙_}
 use native.Mathlib.Omega.{arith}
 use borrow.Author.Needs.{needs}
 use borrow.Author.Tests.{not-true, not-false}
-use Rattle.triangle.specs.Mesh.{admittedTriangle}
 use Rattle.scene.proofs.Entries.{Judging, judging-begun, judging-over, judging-ten, judging-five, judging-again}
 use Rattle.scene.proofs.leaf.judge.Statement.{statement}
 use Rattle.scene.proofs.leaf.judge.Tie as tie
@@ -33,20 +32,17 @@ cast-if1 c = omega (arith, c .shared-slice-known3 .given (c .before .before .loo
 returns : tie.Need-returns Inv-loop μ-loop
 returns c = let l = c .before .before .before .loop in judging-ten _ _ _ _ _ (l .place) (l .inv) (omega arith) _ refl (omega arith)
 
-cast-read : tie.Need-cast-read Inv-loop μ-loop
-cast-read c = search needs
+cast-admitted-at : tie.Need-cast-admitted-at Inv-loop μ-loop
+cast-admitted-at c = search needs
 
-read-requires : tie.Need-read-requires Inv-loop μ-loop
-read-requires c κs = search needs
+admitted-at-requires : tie.Need-admitted-at-requires Inv-loop μ-loop
+admitted-at-requires c κs = search needs
 
-admitted-requires : tie.Need-admitted-requires Inv-loop μ-loop
-admitted-requires c κs = search needs
-
-cast-t17 : tie.Need-cast-t17 Inv-loop μ-loop
-cast-t17 c = search needs
+cast-t16 : tie.Need-cast-t16 Inv-loop μ-loop
+cast-t16 c = search needs
 
 returns-2 : tie.Need-returns-2 Inv-loop μ-loop
-returns-2 c = let l = c .before .before .before .before .before .before .loop in judging-five _ _ _ _ _ (l .place) (l .inv) (omega arith) _ refl (omega arith) (ap admittedTriangle (sym (c .before .before .read .ensures)) ∙ sym (c .before .admitted .ensures) ∙ not-true _ (c .if2 .taken))
+returns-2 c = let l = c .before .before .before .before .before .loop in judging-five _ _ _ _ _ (l .place) (l .inv) (omega arith) _ refl (omega arith) (sym (c .before .admitted-at .ensures) ∙ not-true _ (c .if2 .taken))
 
 add-place : tie.Need-add-place Inv-loop μ-loop
 add-place c = search needs
@@ -55,7 +51,7 @@ loop-less : tie.Need-loop-less Inv-loop μ-loop
 loop-less c = search needs
 
 loop-again : tie.Need-loop-again Inv-loop μ-loop
-loop-again c = let l = c .before .before .before .before .before .before .loop in judging-again _ _ _ _ _ (l .place) (l .inv) (omega arith) _ refl (omega arith) (ap admittedTriangle (sym (c .before .before .read .ensures)) ∙ sym (c .before .admitted .ensures) ∙ not-false _ (c .if2 .left))
+loop-again c = let l = c .before .before .before .before .before .loop in judging-again _ _ _ _ _ (l .place) (l .inv) (omega arith) _ refl (omega arith) (sym (c .before .admitted-at .ensures) ∙ not-false _ (c .if2 .left))
 
 returns-3 : tie.Need-returns-3 Inv-loop μ-loop
 returns-3 c = let l = c .before .loop in judging-over _ _ _ _ _ (l .place) (l .inv) (omega arith)
@@ -72,10 +68,9 @@ judge-spec =
     shared-slice-read-number
     cast-if1
     returns
-    cast-read
-    read-requires
-    admitted-requires
-    cast-t17
+    cast-admitted-at
+    admitted-at-requires
+    cast-t16
     returns-2
     add-place
     loop-less

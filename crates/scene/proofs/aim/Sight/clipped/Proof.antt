@@ -1,5 +1,5 @@
 -- By what the choices ensure. Assumes nothing.
-use Rattle.scene.specs.Aim.{clippedBy}
+use Rattle.scene.specs.Aim.{higher, lower, clippedBy}
 use borrow.Author.Needs.{needs}
 use Rattle.scene.proofs.aim.Sight.clipped.Statement.{statement}
 use Rattle.scene.proofs.aim.Sight.clipped.Tie as tie
@@ -17,7 +17,7 @@ lower-requires : tie.Need-lower-requires
 lower-requires c κs = search needs
 
 returns : tie.Need-returns
-unfolding clippedBy
+unfolding clippedBy higher lower
 returns c = rw (c .before .before .higher .ensures, c .before .before .before .first .ensures, c .lower .ensures, c .before .second .ensures)
 
 pub clipped-spec : {M : Type 1} → statement M

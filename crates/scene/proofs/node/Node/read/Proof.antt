@@ -4,8 +4,8 @@ use borrow.Author.Needs.{needs}
 use Rattle.scene.proofs.node.Node.read.Statement.{statement}
 use Rattle.scene.proofs.node.Node.read.Tie as tie
 
-read-requires : tie.Need-read-requires
-read-requires c κs = search needs
+box-at-requires : tie.Need-box-at-requires
+box-at-requires c κs = search needs
 
 mul-left-or-first : tie.Need-mul-left-or-first
 mul-left-or-first c = search needs
@@ -42,13 +42,13 @@ shared-slice-read-kind c = search needs
 
 returns : tie.Need-returns
 unfolding nodeAt
-returns c = rw (c .before .before .before .read .ensures)
+returns c = rw (c .before .before .before .box-at .ensures)
 
 pub read-spec : {M : Type 1} → statement M
 read-spec =
     tie.close
     (tie.spec
-    read-requires
+    box-at-requires
     mul-left-or-first
     mul-left-or-first-2
     shared-slice-read-left-or-first
