@@ -1,6 +1,6 @@
 -- Laws of the choice of a split. Assumes nothing.
 use mathlib.Core.Path.{_≡_, refl, sym, _∙_, ap}
-use Prim.Native.Nat.{ℕ, _+_, _≤_, _<_}
+use Prim.Native.Nat.{ℕ, zero, suc, _+_, _≤_, _<_}
 use native.Mathlib.Omega.{arith}
 use native.Mathlib.Numerals.{add-one}
 use mathlib.Core.Bool.{true, false}
@@ -10,14 +10,15 @@ use lib.Seq.{drop-cons}
 use lib.Ieee.{Float, add, sub, mul, div, lt, le, ofInt, ofBits, binary64}
 use borrow.Author.Tests.{eq-eqb, ne-eqb, le-leb, lt-leb}
 use Rattle.order.specs.Number.{millionth, nought, one, one-and-half, sixteen, trillionth}
-use Rattle.aabb.specs.Bounds.{area}
-use Rattle.aabb.specs.Vector.{along}
+use Rattle.aabb.specs.Bounds.{area, extent}
+use Rattle.aabb.specs.Vector.{along, minus}
+use Rattle.aabb.specs.declared.vector.Vec3.{Vec3}
 use Rattle.aabb.specs.declared.bounds.Aabb.{Aabb}
 use Rattle.builder.specs.declared.bins.Bin.{Bin}
 use Rattle.builder.specs.declared.split.Best.{Best}
 use Rattle.builder.specs.declared.split.SplitDecision.the-variants.{MakeLeaf, Split}
 use Rattle.builder.specs.Bins.{blank, filled, joinBins, noBin, suffixOf, whole}
-use Rattle.builder.specs.Choice.{bestSplit, betterOf, chosen, costOf, leafCost, sweepFrom, tryAxis}
+use Rattle.builder.specs.Choice.{bestSplit, betterOf, chosen, costOf, leafCost, sweepFrom, tryAxis, weight}
 
 -- ---- the sweep
 module _ (axis : ℕ) (lo width parent : Float) where
@@ -35,9 +36,10 @@ module _ (axis : ℕ) (lo width parent : Float) where
   pub sweep-end : (best : Best) (l : Bin) (bs : List Bin) (i : ℕ) → length bs ≡ 16 → i ≤ 15 → 15 ≤ i → sweepFrom axis lo width parent best l (drop i bs) i ≡ best
   sweep-end best l bs i h p q = sweep-one best l (drop i bs) i (omega (arith, length-drop i bs))
 
-  pub sweep-next : (best best′ : Best) (l l′ r : Bin) (bs : List Bin) (i : ℕ) (n : Best) → length bs ≡ 16 → i < 15 → l′ ≡ joinBins l (getD bs i blank) → r ≡ suffixOf (drop (i + 1) bs)
-      → best′ ≡ betterOf best l′ r (i + 1) axis lo width parent → sweepFrom axis lo width parent best l (drop i bs) i ≡ n → sweepFrom axis lo width parent best′ l′ (drop (i + 1) bs) (i + 1) ≡ n
-  sweep-next best best′ l l′ r bs i n h k p q e s =
+  pub sweep-next : (best best′ : Best) (l l′ b : Bin) (bs : List Bin) (i : ℕ) (n : Best) → length bs ≡ 16 → i < 15 → b ≡ getD bs i blank → l′ ≡ joinBins l b
+      → best′ ≡ betterOf best l′ (suffixOf (drop (i + 1) bs)) (i + 1) axis lo width parent → sweepFrom axis lo width parent best l (drop i bs) i ≡ n → sweepFrom axis lo width parent best′ l′ (drop (i + 1) bs) (i + 1) ≡ n
+  sweep-next best best′ l l′ b bs i n h k q j e s =
+      let p : l′ ≡ joinBins l (getD bs i blank) = j ∙ ap (joinBins l) q in
       let b1 : best′ ≡ betterOf best (joinBins l (getD bs i blank)) (suffixOf (drop (i + 1) bs)) (i + 1) axis lo width parent = cc in
       ap (λ (z : Best). sweepFrom axis lo width parent z l′ (drop (i + 1) bs) (i + 1)) b1
       ∙ ap (λ (z : Bin). sweepFrom axis lo width parent (betterOf best (joinBins l (getD bs i blank)) (suffixOf (drop (i + 1) bs)) (i + 1) axis lo width parent) z (drop (i + 1) bs) (i + 1)) p
@@ -46,6 +48,10 @@ module _ (axis : ℕ) (lo width parent : Float) where
       ∙ s
 
 -- ---- the better of two
+pub cost-is : (l r : Bin) (light heavy parent : Float) → light ≡ weight l → weight r ≡ heavy → add binary64 one (div binary64 (add binary64 light heavy) parent) ≡ costOf l r parent
+unfolding costOf
+cost-is l r light heavy parent p q = rw (p, ← q)
+
 module _ (best : Best) (l r : Bin) (i axis : ℕ) (lo width parent : Float) where
   pub better-1 : l .count ≡ 0 → best ≡ betterOf best l r i axis lo width parent
   unfolding betterOf
@@ -69,15 +75,31 @@ sixteen-is : whole 16 ≡ sixteen
 unfolding ofInt ofBits
 sixteen-is = refl
 
+pub scale-is : (span : Float) → div binary64 (whole 16) span ≡ div binary64 sixteen span
+scale-is span = ap (λ (z : Float). div binary64 z span) sixteen-is
+
+-- 16/span of each axis, by one vector
+module _ (q : Aabb) (e s : Vec3) (p : e ≡ extent q) (f : s .x ≡ div binary64 sixteen (e .x)) (g : s .y ≡ div binary64 sixteen (e .y)) (h : s .z ≡ div binary64 sixteen (e .z)) where
+  scale-on : (a : ℕ) → a < 3 → along a s ≡ div binary64 sixteen (sub binary64 (along a (q .max)) (along a (q .min)))
+  unfolding along extent minus
+  scale-on zero k = f ∙ ap (λ (v : Vec3). div binary64 sixteen (v .x)) p
+  scale-on (suc zero) k = g ∙ ap (λ (v : Vec3). div binary64 sixteen (v .y)) p
+  scale-on (suc (suc zero)) k = h ∙ ap (λ (v : Vec3). div binary64 sixteen (v .z)) p
+  scale-on (suc (suc (suc a))) k = absurd (omega arith)
+
+  pub fill-on : (m : List Float) (ids : List ℕ) (a : ℕ) → a < 3 → filled m a (along a (q .min)) (along a s) (replicate 16 noBin) ids ≡ filled m a (along a (q .min)) (div binary64 sixteen (sub binary64 (along a (q .max)) (along a (q .min)))) (replicate 16 noBin) ids
+  fill-on m ids a k = ap (λ (z : Float). filled m a (along a (q .min)) z (replicate 16 noBin) ids) (scale-on a k)
+
 module _ (m : List Float) (ids : List ℕ) (q : Aabb) (axis : ℕ) (parent : Float) (best : Best) (lo hi : Float) (el : lo ≡ along axis (q .min)) (eh : hi ≡ along axis (q .max)) where
   pub try-skip : lt (sub binary64 hi lo) millionth ≡ true → best ≡ tryAxis m ids q axis parent best
   unfolding tryAxis
   try-skip t = rw (← el, ← eh, t)
 
-  pub try-go : (bins : List Bin) (r : Best) → lt (sub binary64 hi lo) millionth ≡ false → bins ≡ filled m axis lo (div binary64 (whole 16) (sub binary64 hi lo)) (replicate 16 noBin) ids
-      → r ≡ sweepFrom axis lo (div binary64 one (div binary64 (whole 16) (sub binary64 hi lo))) parent best noBin bins 0 → r ≡ tryAxis m ids q axis parent best
+  pub try-go : (bins : List Bin) (scale : Float) (r : Best) → lt (sub binary64 hi lo) millionth ≡ false
+      → bins ≡ filled m axis (along axis (q .min)) (div binary64 sixteen (sub binary64 (along axis (q .max)) (along axis (q .min)))) (replicate 16 noBin) ids → scale ≡ div binary64 sixteen (sub binary64 hi lo)
+      → r ≡ sweepFrom axis lo (div binary64 one scale) parent best noBin bins 0 → r ≡ tryAxis m ids q axis parent best
   unfolding tryAxis
-  try-go bins r t e f = f ∙ ap (λ (z : List Bin). sweepFrom axis lo (div binary64 one (div binary64 (whole 16) (sub binary64 hi lo))) parent best noBin z 0) e ∙ rw (← el, ← eh, t, sixteen-is)
+  try-go bins scale r t e s f = f ∙ rw (e, s, ← el, ← eh, t)
 
 -- ---- the choice
 module _ (m : List Float) (ids : List ℕ) (b q : Aabb) where

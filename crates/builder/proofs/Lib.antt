@@ -1,6 +1,10 @@
+pub mod Clear
 pub mod Passes
 pub mod Filling
+pub mod Lanes
+pub mod Three
 pub mod Choosing
+pub mod Sweeping
 pub mod Parting
 pub mod Linear
 pub mod Perm

@@ -4,10 +4,11 @@ use Prim.Native.Nat.{ℕ}
 use native.Mathlib.Omega.{arith}
 use mathlib.Core.Bool.{Bool, true, false}
 use lib.Dec.{ltb}
-use lib.Ieee.{Float}
+use lib.Ieee.{Float, lt, ne}
 use borrow.Author.Tests.{ltb-true, ltb-false, lt-ltb, le-ltb}
+use Rattle.order.specs.Number.{nought, real}
 use Rattle.order.specs.Total.{lex, totalLess}
-use Rattle.order.proofs.Total.{Weak, weak-lex, weak-total, lex-false}
+use Rattle.order.proofs.Total.{Weak, weak-lex, weak-total, lex-false, total-gt, total-level, total-lt}
 use Rattle.builder.specs.Fallback.{underAt, ahead}
 
 weak-at : (at : ℕ → Float) → Weak (underAt at)
@@ -41,3 +42,17 @@ linear-ahead at = record {
 pub under-at : (at : ℕ → Float) (a b j k : ℕ) (x y : Float) (r : Bool) → r ≡ totalLess x y → x ≡ at j → y ≡ at k → j ≡ a → k ≡ b → r ≡ underAt at a b
 unfolding underAt
 under-at at a b j k x y r p q s e f = cc
+
+-- numbers that comparisons tell apart, or tell level
+module _ (at : ℕ → Float) (a b : ℕ) (x y : Float) (p : x ≡ at a) (q : y ≡ at b) where
+  pub under-lt : lt x y ≡ true → underAt at a b ≡ true
+  unfolding underAt
+  under-lt t = rw (← p, ← q, total-lt x y t)
+
+  pub under-gt : lt y x ≡ true → underAt at a b ≡ false
+  unfolding underAt
+  under-gt t = rw (← p, ← q, total-gt x y t)
+
+  pub under-level : lt x y ≡ false → (real x ≡ true) × (real y ≡ true) → ne x nought ≡ true → underAt at a b ≡ false
+  unfolding underAt
+  under-level t r z = rw (← p, ← q, total-level x y t r z)

@@ -15,7 +15,7 @@ use Rattle.builder.specs.Layout.{boxPut, boxesOf, linkPut, linksOf}
 use Rattle.builder.specs.Lists.{ChildOf, Holds, OnlyChild, Runs, countAt, firstAt, kindAt, size}
 use Rattle.builder.specs.Tree.{Tree, below, fork, leaf}
 
-low-or-high : (a b : ℕ) → (a < b) ⊎ (b ≤ a)
+pub low-or-high : (a b : ℕ) → (a < b) ⊎ (b ≤ a)
 low-or-high a b = elim (decLt a b) [ yes p ↦ inl p | no n ↦ inr (omega arith) ]
 
 -- ---- a node, written and read
@@ -37,7 +37,7 @@ same-node bs bs′ ls ls′ i b f c k s n = record { box-is = s .box ∙ n .box-
 same-both : (bs bs′ bs″ : List Float) (ls ls′ ls″ : List ℕ) (i : ℕ) → SameAt bs bs′ ls ls′ i → SameAt bs′ bs″ ls′ ls″ i → SameAt bs bs″ ls ls″ i
 same-both bs bs′ bs″ ls ls′ ls″ i s t = record { box = t .box ∙ s .box; first = t .first ∙ s .first; count = t .count ∙ s .count; kind = t .kind ∙ s .kind }
 
-box-numbers : (bs bs′ : List Float) (i : ℕ) → ((k : ℕ) → i * 6 ≤ k → k < i * 6 + 6 → getD bs′ k nan ≡ getD bs k nan) → boxAt bs′ i ≡ boxAt bs i
+pub box-numbers : (bs bs′ : List Float) (i : ℕ) → ((k : ℕ) → i * 6 ≤ k → k < i * 6 + 6 → getD bs′ k nan ≡ getD bs k nan) → boxAt bs′ i ≡ boxAt bs i
 unfolding boxAt vectorAt
 box-numbers bs bs′ i f =
     rw (
@@ -130,7 +130,7 @@ module _ (bs : List Float) (n : ℕ) (b : Aabb) where
         up : (n : ℕ) → n * 6 + 3 + 2 ≡ n * 6 + 5
         up n = omega arith
 
-    box-here : boxAt (boxPut bs n b) n ≡ b
+    pub box-here : boxAt (boxPut bs n b) n ≡ b
     unfolding boxAt vectorAt
     box-here = rw (at-0, at-1, at-2, at-3, at-4, at-5)
 
@@ -164,7 +164,7 @@ put-node : (bs : List Float) (ls : List ℕ) (n : ℕ) (b : Aabb) (f c k : ℕ) 
 put-node bs ls n b f c k h g = record { box-is = box-here bs n b h; first-is = link-first ls n f c k g; count-is = link-count ls n f c k g; kind-is = link-kind ls n f c k g }
 
 -- ---- lengths
-box-length : (bs : List Float) (n : ℕ) (b : Aabb) → length (boxPut bs n b) ≡ length bs
+pub box-length : (bs : List Float) (n : ℕ) (b : Aabb) → length (boxPut bs n b) ≡ length bs
 unfolding boxPut
 box-length bs n b = simp length-set
 

@@ -1,5 +1,6 @@
 pub mod Range
 pub mod Bins
+pub mod Lanes
 pub mod Choice
 pub mod Partition
 pub mod Fallback

@@ -1,49 +1,37 @@
-// The sixteen bins of an axis, each with a count and a box: how they are filled, and joined from the right.
+// The sixteen bins of each axis, each with a count and a box: how they are filled, three axes in one pass.
 use crate::range;
+use crate::running;
 use aabb::Aabb;
-use triangle::Triangle;
+use aabb::Vec3;
 ghost use mathlib.Core.Path.{_≡_};
-ghost use Prim.Native.Nat.{ℕ, _+_, _≤_, _<_};
-ghost use lib.ListN.{length, getD, drop, replicate};
+ghost use Prim.Native.Nat.{ℕ, _+_, _*_, _≤_, _<_};
+ghost use lib.ListN.{length, getD, set, replicate};
+ghost use Rattle.order.specs.Number.{infinity};
+ghost use Rattle.aabb.specs.Vector.{along};
+ghost use Rattle.aabb.specs.Bounds.{union, boxAt};
 ghost use Rattle.builder.specs.Tree.{most-triangles};
-ghost use Rattle.builder.specs.Bins.{AtMost, blank, noBin, withBox, joinBins, binOf, filled, suffixOf};
+ghost use Rattle.builder.specs.Layout.{boxPut};
+ghost use Rattle.builder.specs.Bins.{noBin, joinBins, binOf, filled};
+ghost use Rattle.builder.specs.Lanes.{Clear, AllClear, binAt, lane, Lanes, Vacant};
 
 pub struct Bin {
     pub count: u32,
     pub bounds: Aabb,
 }
 
-pub struct Bins {
-    pub bin: [Bin; 16],
-}
-
 impl Bin {
     pub fn none() -> Bin
-        ensures { λ r. ⌜ r ≡ noBin ⌝ }
+        ensures { λ r. ⌜ (r ≡ noBin) × Clear (r .bounds) ⌝ }
     {
-        let bounds = Aabb::empty();
+        let bounds = running::nothing();
         Bin { count: 0, bounds }
     }
 
-    // One triangle more, whose box is given.
-    pub fn with(self, bounds: Aabb) -> Bin
-        requires { ⌜ self .count < most-triangles ⌝ }
-        ensures { λ r. ⌜ r ≡ withBox self bounds ⌝ }
-    {
-        let mine = self.bounds;
-        let bounds = mine.union(bounds);
-        Bin {
-            count: self.count + 1,
-            bounds,
-        }
-    }
-
     pub fn joined(self, other: Bin) -> Bin
-        requires { ⌜ self .count + other .count ≤ 16777216 ⌝ }
-        ensures { λ r. ⌜ r ≡ joinBins self other ⌝ }
+        requires { ⌜ (self .count + other .count ≤ 16777216) × Clear (self .bounds) ⌝ }
+        ensures { λ r. ⌜ (r ≡ joinBins self other) × Clear (r .bounds) ⌝ }
     {
-        let mine = self.bounds;
-        let bounds = mine.union(other.bounds);
+        let bounds = running::joined(self.bounds, other.bounds);
         Bin {
             count: self.count + other.count,
             bounds,
@@ -65,38 +53,86 @@ pub fn bin_of(x: f64) -> u8
     0
 }
 
-pub fn fill(triangles: &[f64], index: &[u32], axis: usize, min: f64, scale: f64) -> Bins
-    requires { ⌜ length (now index) ≤ most-triangles ⌝ }
-    ensures { λ r. ⌜ (r .bin ≡ filled (now (triangles .entry)) axis min scale (replicate 16 noBin) (now (index .entry))) × AtMost most-triangles (r .bin) × (length (r .bin) ≡ 16) ⌝ }
+// Bin k of the lent bins, six numbers of box each and a count.
+pub fn bin_at(boxes: &[f64], counts: &[u32], k: usize) -> Bin
+    requires { ⌜ (k * 6 + 6 ≤ length (now boxes)) × (k < length (now counts)) ⌝ }
+    ensures { λ r. ⌜ r ≡ binAt (now (boxes .entry)) (now (counts .entry)) k ⌝ }
 {
-    let none = Bin::none();
-    let mut bin = [none; 16];
-    let mut i: usize = 0;
-    while i < index.len() {
-        let t = Triangle::read(triangles, range::wide(index[i]));
-        let c = t.centroid().along(axis);
-        let k = bin_of((c - min) * scale) as usize;
-        let old = bin[k];
-        bin[k] = old.with(t.aabb());
-        i += 1;
+    let at = k * 6;
+    let min = Vec3 {
+        x: boxes[at],
+        y: boxes[at + 1],
+        z: boxes[at + 2],
+    };
+    let top = at + 3;
+    let max = Vec3 {
+        x: boxes[top],
+        y: boxes[top + 1],
+        z: boxes[top + 2],
+    };
+    let bounds = Aabb { min, max };
+    Bin {
+        count: counts[k],
+        bounds,
     }
-    Bins { bin }
 }
 
-// Each bin joined with those after it, from the right end.
-pub fn suffixes(b: Bins) -> Bins
-    requires { ⌜ AtMost most-triangles (b .bin) × (length (b .bin) ≡ 16) ⌝ }
-    ensures { λ r. ⌜ ((j : ℕ) → j < 16 → getD (r .bin) j blank ≡ suffixOf (drop j (b .bin))) ⌝ }
+// Boxes that hold +inf everywhere become the empty box, each.
+pub fn vacate(boxes: &mut [f64])
+    requires { ⌜ now boxes ≡ replicate 288 infinity ⌝ }
+    ensures { λ _. ⌜ Vacant (now (boxes .exit)) (replicate 48 0) ⌝ }
 {
-    let from = b.bin;
-    let mut out = from;
-    let mut run = Bin::none();
-    let mut i: usize = 16;
-    while 0 < i {
-        i -= 1;
-        let here = out[i];
-        run = run.joined(here);
-        out[i] = run;
+    let far = -order::infinity();
+    let mut k: usize = 0;
+    while k < 48 {
+        boxes[k * 6 + 3] = far;
+        boxes[k * 6 + 4] = far;
+        boxes[k * 6 + 5] = far;
+        k += 1;
     }
-    Bins { bin: out }
+}
+
+// One triangle more in bin k, whose box is given.
+pub fn put(boxes: &mut [f64], counts: &mut [u32], k: usize, b: Aabb)
+    requires { ⌜ (k < 48) × Lanes most-triangles (now boxes) (now counts) ⌝ }
+    ensures { λ _. ⌜ now (boxes .exit) ≡ boxPut (now (boxes .entry)) k (union (boxAt (now (boxes .entry)) k) b) ⌝ }
+    ensures { λ _. ⌜ now (counts .exit) ≡ set (now (counts .entry)) k (getD (now (counts .entry)) k 0 + 1) ⌝ }
+    ensures { λ _. ⌜ AllClear (now (boxes .exit)) ⌝ }
+{
+    let at = k * 6;
+    boxes[at] = order::lower(boxes[at], b.min.x);
+    boxes[at + 1] = order::lower(boxes[at + 1], b.min.y);
+    boxes[at + 2] = order::lower(boxes[at + 2], b.min.z);
+    boxes[at + 3] = order::higher(boxes[at + 3], b.max.x);
+    boxes[at + 4] = order::higher(boxes[at + 4], b.max.y);
+    boxes[at + 5] = order::higher(boxes[at + 5], b.max.z);
+    counts[k] += 1;
+}
+
+// The bins of the three axes in one pass over the range: bin k of an axis stands at axis·16 + k.
+pub fn fill(
+    triangles: &[f64],
+    index: &[u32],
+    min: Vec3,
+    scale: Vec3,
+    boxes: &mut [f64],
+    counts: &mut [u32],
+)
+    requires { ⌜ (length (now index) ≤ most-triangles) × Vacant (now boxes) (now counts) ⌝ }
+    ensures { λ _. ⌜ Lanes most-triangles (now (boxes .exit)) (now (counts .exit)) ⌝ }
+    ensures { λ _. ⌜ ((a : ℕ) → a < 3 → lane (now (boxes .exit)) (now (counts .exit)) (a * 16) 16 ≡ filled (now (triangles .entry)) a (along a min) (along a scale) (replicate 16 noBin) (now (index .entry))) ⌝ }
+{
+    let mut i: usize = 0;
+    while i < index.len() {
+        let t = range::corners(triangles, index[i]);
+        let c = t.centroid();
+        let b = range::box_of(t);
+        let x = bin_of((c.x - min.x) * scale.x) as usize;
+        let y = bin_of((c.y - min.y) * scale.y) as usize;
+        let z = bin_of((c.z - min.z) * scale.z) as usize;
+        put(boxes, counts, x, b);
+        put(boxes, counts, 16 + y, b);
+        put(boxes, counts, 32 + z, b);
+        i += 1;
+    }
 }

@@ -9,12 +9,25 @@ ghost use Rattle.builder.specs.Tree.{most-triangles};
 ghost use Rattle.builder.specs.Fallback.{ahead, ordered};
 ghost use Rattle.builder.specs.Heap.{Perm, HeapFrom, Greater};
 
-// Whether triangle a comes before triangle b.
+// Whether triangle a comes before triangle b. Numbers that differ, and equal ones but zeros, are told by comparisons; `total_cmp` for the rest.
 pub fn is_ahead(triangles: &[f64], axis: usize, a: u32, b: u32) -> bool
     ensures { λ r. ⌜ r ≡ ahead (centroidAt (now (triangles .entry)) axis) a b ⌝ }
 {
     let x = range::centroid_on(triangles, a, axis);
     let y = range::centroid_on(triangles, b, axis);
+    if x < y {
+        return true;
+    }
+    if y < x {
+        return false;
+    }
+    if x == y {
+        if x != 0.0 {
+            if y != 0.0 {
+                return a < b;
+            }
+        }
+    }
     if order::total_less(x, y) {
         return true;
     }

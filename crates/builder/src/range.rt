@@ -1,12 +1,15 @@
 // What is asked of a range of triangle numbers: the boxes of its triangles and of their centroids, in one pass.
+use crate::running;
 use aabb::Aabb;
+use triangle::Corners;
 use triangle::Triangle;
 ghost use mathlib.Core.Path.{_≡_};
 ghost use Prim.Native.Nat.{_≤_, _<_};
 ghost use lib.ListN.{length};
 ghost use Rattle.builder.specs.Tree.{most-triangles};
 ghost use Rattle.builder.specs.Range.{nodeBox, centroidBox};
-ghost use Rattle.triangle.specs.Mesh.{centroidAt};
+ghost use Rattle.aabb.specs.Bounds.{ofThree};
+ghost use Rattle.triangle.specs.Mesh.{triangleAt, centroidAt};
 ghost use Rattle.builder.specs.Partition.{swapped};
 
 // The node's box, and the box of the centroids: the least and the greatest on each axis.
@@ -15,17 +18,31 @@ pub struct Hull {
     pub centroids: Aabb,
 }
 
+// The vertices of a triangle.
+pub fn corners(triangles: &[f64], i: u32) -> Corners
+    ensures { λ r. ⌜ (r .v0 ≡ triangleAt (now (triangles .entry)) i .v0) × (r .v1 ≡ triangleAt (now (triangles .entry)) i .v1) × (r .v2 ≡ triangleAt (now (triangles .entry)) i .v2) ⌝ }
+{
+    Corners::read(triangles, wide(i))
+}
+
+// The box of the vertices.
+pub fn box_of(t: Corners) -> Aabb
+    ensures { λ r. ⌜ r ≡ ofThree (t .v0) (t .v1) (t .v2) ⌝ }
+{
+    running::around_three(t.v0, t.v1, t.v2)
+}
+
 pub fn around(triangles: &[f64], index: &[u32]) -> Hull
     requires { ⌜ length (now index) ≤ most-triangles ⌝ }
     ensures { λ r. ⌜ (r .bounds ≡ nodeBox (now (triangles .entry)) (now (index .entry))) × (r .centroids ≡ centroidBox (now (triangles .entry)) (now (index .entry))) ⌝ }
 {
-    let mut bounds = Aabb::empty();
-    let mut centroids = Aabb::empty();
+    let mut bounds = running::nothing();
+    let mut centroids = running::nothing();
     let mut i: usize = 0;
     while i < index.len() {
-        let t = Triangle::read(triangles, wide(index[i]));
-        bounds = bounds.union(t.aabb());
-        centroids = centroids.grow(t.centroid());
+        let t = corners(triangles, index[i]);
+        bounds = running::joined(bounds, box_of(t));
+        centroids = running::grown(centroids, t.centroid());
         i += 1;
     }
     Hull { bounds, centroids }
@@ -35,7 +52,14 @@ pub fn around(triangles: &[f64], index: &[u32]) -> Hull
 pub fn centroid_on(triangles: &[f64], i: u32, axis: usize) -> f64
     ensures { λ r. ⌜ r ≡ centroidAt (now (triangles .entry)) axis i ⌝ }
 {
-    Triangle::read(triangles, wide(i)).centroid().along(axis)
+    let k = wide(i);
+    if axis < 3 {
+        if k < triangles.len() / 12 {
+            let at = k * 12 + axis;
+            return (triangles[at] + triangles[at + 3] + triangles[at + 6]) / 3.0;
+        }
+    }
+    Triangle::read(triangles, k).centroid().along(axis)
 }
 
 pub fn wide(x: u32) -> usize

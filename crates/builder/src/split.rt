@@ -1,15 +1,20 @@
 // The choice of a split by sixteen bins an axis: `find_best_split` of the Rust, an inner part here.
 use crate::bins;
 use crate::bins::Bin;
-use crate::bins::Bins;
 use crate::range::Hull;
 use aabb::Aabb;
+use aabb::Vec3;
 ghost use mathlib.Core.Path.{_≡_};
-ghost use Prim.Native.Nat.{_≤_};
-ghost use lib.ListN.{length};
+ghost use mathlib.Core.List.{List};
+ghost use Prim.Native.Nat.{ℕ, _*_, _≤_, _<_};
+ghost use lib.ListN.{length, replicate};
+ghost use lib.Ieee.{Float, div, sub, binary64};
+ghost use Rattle.order.specs.Number.{sixteen};
+ghost use Rattle.aabb.specs.Vector.{along};
 ghost use Rattle.builder.specs.Tree.{most-triangles};
-ghost use Rattle.builder.specs.Bins.{AtMost, noBin};
-ghost use Rattle.builder.specs.Choice.{costOf, betterOf, sweepFrom, tryAxis, bestSplit};
+ghost use Rattle.builder.specs.Bins.{noBin, filled};
+ghost use Rattle.builder.specs.Lanes.{lane, Lanes};
+ghost use Rattle.builder.specs.Choice.{weight, betterOf, sweepFrom, tryAxis, bestSplit};
 
 pub enum SplitDecision {
     Split { axis: usize, position: f64 },
@@ -23,38 +28,36 @@ pub struct Best {
     pub position: f64,
 }
 
-// 1 + ((areaL·nL)·1.5 + (areaR·nR)·1.5)/parent
-pub fn cost(l: Bin, r: Bin, parent: f64) -> f64
-    ensures { λ c. ⌜ c ≡ costOf l r parent ⌝ }
+// (area·n)·1.5
+pub fn weight(b: Bin) -> f64
+    ensures { λ r. ⌜ r ≡ weight b ⌝ }
 {
-    let nl = l.count as f64;
-    let nr = r.count as f64;
-    let al = l.bounds.surface_area();
-    let ar = r.bounds.surface_area();
-    Aabb::SAH_TRAVERSAL_COST
-        + (al * nl * Aabb::SAH_INTERSECTION_COST + ar * nr * Aabb::SAH_INTERSECTION_COST) / parent
+    let n = b.count as f64;
+    let area = b.bounds.surface_area();
+    area * n * Aabb::SAH_INTERSECTION_COST
 }
 
-// The boundary with `i` bins to its left, each `width` wide, against the best so far.
+// The boundary with `i` bins to its left, each `width` wide, against the best so far. Of the bins to the right only their number and weight are asked.
 pub fn better(
     best: Best,
     l: Bin,
-    r: Bin,
+    count: u32,
+    heavy: f64,
     i: u8,
     axis: usize,
     min: f64,
     width: f64,
     parent: f64,
 ) -> Best
-    ensures { λ b. ⌜ b ≡ betterOf best l r i axis min width parent ⌝ }
+    ensures { λ b. ⌜ ((r : Bin) → r .count ≡ count → weight r ≡ heavy → b ≡ betterOf best l r i axis min width parent) ⌝ }
 {
     if l.count == 0 {
         return best;
     }
-    if r.count == 0 {
+    if count == 0 {
         return best;
     }
-    let cost = cost(l, r, parent);
+    let cost = Aabb::SAH_TRAVERSAL_COST + (weight(l) + heavy) / parent;
     if cost < best.cost {
         return Best {
             cost,
@@ -65,37 +68,62 @@ pub fn better(
     best
 }
 
-// The fifteen boundaries of an axis, from left to right.
-pub fn sweep(b: Bins, best: Best, axis: usize, min: f64, width: f64, parent: f64) -> Best
-    requires { ⌜ AtMost most-triangles (b .bin) × (length (b .bin) ≡ 16) ⌝ }
-    ensures { λ r. ⌜ r ≡ sweepFrom axis min width parent best noBin (b .bin) 0 ⌝ }
+// The fifteen boundaries of an axis, from left to right; what is to the right of each is worked out before, from the right end.
+pub fn sweep(
+    boxes: &[f64],
+    counts: &[u32],
+    best: Best,
+    axis: usize,
+    min: f64,
+    width: f64,
+    parent: f64,
+) -> Best
+    requires { ⌜ (axis < 3) × Lanes most-triangles (now boxes) (now counts) ⌝ }
+    ensures { λ r. ⌜ r ≡ sweepFrom axis min width parent best noBin (lane (now (boxes .entry)) (now (counts .entry)) (axis * 16) 16) 0 ⌝ }
 {
-    let right = bins::suffixes(b);
-    let bin = b.bin;
-    let sides = right.bin;
+    let from = axis * 16;
+    let mut numbers = [0u32; 16];
+    let mut weights = [0.0; 16];
+    let mut run = Bin::none();
+    let mut k: usize = 16;
+    while 1 < k {
+        k -= 1;
+        run = run.joined(bins::bin_at(boxes, counts, from + k));
+        numbers[k] = run.count;
+        weights[k] = weight(run);
+    }
     let mut left = Bin::none();
     let mut most = best;
     let mut i: u8 = 0;
     while i < 15 {
-        let here = bin[i as usize];
-        left = left.joined(here);
+        left = left.joined(bins::bin_at(boxes, counts, from + i as usize));
         i += 1;
-        let r = sides[i as usize];
-        most = better(most, left, r, i, axis, min, width, parent);
+        most = better(
+            most,
+            left,
+            numbers[i as usize],
+            weights[i as usize],
+            i,
+            axis,
+            min,
+            width,
+            parent,
+        );
     }
     most
 }
 
+// An axis whose bins are filled.
 pub fn try_axis(
-    triangles: &[f64],
-    index: &[u32],
+    boxes: &[f64],
+    counts: &[u32],
     axis: usize,
     centroids: Aabb,
     parent: f64,
     best: Best,
 ) -> Best
-    requires { ⌜ length (now index) ≤ most-triangles ⌝ }
-    ensures { λ r. ⌜ r ≡ tryAxis (now (triangles .entry)) (now (index .entry)) centroids axis parent best ⌝ }
+    requires { ⌜ (axis < 3) × Lanes most-triangles (now boxes) (now counts) ⌝ }
+    ensures { λ r. ⌜ ((mesh : List Float) (range : List ℕ) → lane (now (boxes .entry)) (now (counts .entry)) (axis * 16) 16 ≡ filled mesh axis (along axis (centroids .min)) (div binary64 sixteen (sub binary64 (along axis (centroids .max)) (along axis (centroids .min)))) (replicate 16 noBin) range → r ≡ tryAxis mesh range centroids axis parent best) ⌝ }
 {
     let min = centroids.min.along(axis);
     let max = centroids.max.along(axis);
@@ -103,10 +131,15 @@ pub fn try_axis(
     if span < 1e-6 {
         return best;
     }
-    let scale = (Aabb::SAH_BINS as f64) / span;
-    let width = 1.0 / scale;
-    let bins = bins::fill(triangles, index, axis, min, scale);
-    sweep(bins, best, axis, min, width, parent)
+    let width = 1.0 / scale(span);
+    sweep(boxes, counts, best, axis, min, width, parent)
+}
+
+// 16/span
+fn scale(span: f64) -> f64
+    ensures { λ r. ⌜ r ≡ div binary64 sixteen span ⌝ }
+{
+    (Aabb::SAH_BINS as f64) / span
 }
 
 // The best split of the range whose boxes are given, or none.
@@ -129,9 +162,27 @@ pub fn find_best_split(triangles: &[f64], index: &[u32], hull: Hull) -> SplitDec
         axis: 0,
         position: 0.0,
     };
-    let x = try_axis(triangles, index, 0, centroids, parent, none);
-    let y = try_axis(triangles, index, 1, centroids, parent, x);
-    let z = try_axis(triangles, index, 2, centroids, parent, y);
+    let span = centroids.extent();
+    let scales = Vec3 {
+        x: scale(span.x),
+        y: scale(span.y),
+        z: scale(span.z),
+    };
+    let far = order::infinity();
+    let mut boxes = [far; 288];
+    let mut counts = [0u32; 48];
+    bins::vacate(&mut boxes);
+    bins::fill(
+        triangles,
+        index,
+        centroids.min,
+        scales,
+        &mut boxes,
+        &mut counts,
+    );
+    let x = try_axis(&boxes, &counts, 0, centroids, parent, none);
+    let y = try_axis(&boxes, &counts, 1, centroids, parent, x);
+    let z = try_axis(&boxes, &counts, 2, centroids, parent, y);
     if z.cost < leaf {
         return SplitDecision::Split {
             axis: z.axis,

@@ -9,7 +9,7 @@ use lib.Ieee.{Float, nan, inf, fin, lt, eq, ne, div, isNan, binary64}
 use Rattle.order.specs.Number.{real, nought, one}
 use Rattle.order.specs.Total.{lex, lessNumber, minusZero, lessZero, totalLess}
 use Rattle.order.proofs.Numbers.{nought-is, one-is}
-use Rattle.order.proofs.Order.{clash, lt→le, le→not-lt, not-lt→le, le-trans}
+use Rattle.order.proofs.Order.{clash, lt→le, le→real-l, le→real-r, le→not-lt, not-lt→le, le-trans}
 use Rattle.order.proofs.Pick.{nan-test}
 use Rattle.order.proofs.Absolute.{is-zero, not-zero}
 
@@ -99,6 +99,42 @@ pub weak-total : Weak totalLess
 unfolding totalLess
 weak-total = record { chain = weak-lex lessNumber lessZero weak-num weak-zero .chain; turn = weak-lex lessNumber lessZero weak-num weak-zero .turn }
 
+-- ---- numbers that differ, and equal ones but zeros, are told by comparisons
+is-true : (b : Bool) → T b → b ≡ true
+is-true true t = refl
+is-true false t = absurd t
+
+less-told : (x y : Float) → lt x y ≡ true → lessNumber x y ≡ true
+unfolding lessNumber
+less-told x y p =
+    let h = lt→le x y (true-is (lt x y) p) in
+    rw (is-true (real x) (le→real-l x y h), is-true (real y) (le→real-r x y h), p)
+
+pub total-lt : (x y : Float) → lt x y ≡ true → totalLess x y ≡ true
+unfolding totalLess
+total-lt x y p = rw (less-told x y p)
+
+pub total-gt : (x y : Float) → lt y x ≡ true → totalLess x y ≡ false
+total-gt x y p = weak-total .turn y x (total-lt y x p)
+
+pub level-real : (x y : Float) → eq x y ≡ true → (real x ≡ true) × (real y ≡ true)
+unfolding eq
+level-real nan y p = clash false p refl
+level-real (inf s) nan p = clash false p refl
+level-real (inf s) (inf t) p = (refl, refl)
+level-real (inf s) (fin t n d) p = (refl, refl)
+level-real (fin s m e) nan p = clash false p refl
+level-real (fin s m e) (inf t) p = (refl, refl)
+level-real (fin s m e) (fin t n d) p = (refl, refl)
+
+level-number : (x y : Float) → lt x y ≡ false → real x ≡ true → real y ≡ true → lessNumber x y ≡ false
+unfolding lessNumber
+level-number x y p q r = rw (q, r, p)
+
+level-zero : (x y : Float) → minusZero x ≡ false → lessZero x y ≡ false
+unfolding lessZero
+level-zero x y p = rw p
+
 -- ---- a NaN
 real-not : (x : Float) → real x ≡ not (isNan x)
 unfolding isNan
@@ -144,6 +180,16 @@ zero-sign x p = ap (λ (z : Float). lt (div binary64 one x) z) nought-is ∙ ap 
 
 pub zero-none : (x : Float) → eq x nought ≡ false → false ≡ minusZero x
 zero-none x p = zero-no x (ap (λ (z : Float). eq x z) (sym nought-is) ∙ p)
+
+not-ne : (b : Bool) → not b ≡ true → b ≡ false
+not-ne true p = clash false p refl
+not-ne false p = refl
+
+pub total-level : (x y : Float) → lt x y ≡ false → (real x ≡ true) × (real y ≡ true) → ne x nought ≡ true → totalLess x y ≡ false
+unfolding totalLess ne
+total-level x y p r z =
+    false-lex (lessNumber x y) (lessNumber y x) (lessZero x y) (level-number x y p (r .0) (r .1))
+    (λ e. level-zero x y (sym (zero-none x (not-ne (eq x nought) z))))
 
 -- ---- two tests in a row
 pub lex-yes : (r q s : Bool) → r ≡ true → true ≡ (r || (not q && s))

@@ -1,102 +1,140 @@
--- What is left of the range fills the bins so far to the whole; no bin counts more than were put in. Assumes nothing.
-use mathlib.Core.Path.{_≡_, refl, sym, _∙_, ap}
-use Prim.Native.Nat.{_-_, _≤_, min}
+-- What is left of the range fills the bins so far to the whole, on each axis; no bin counts more than were put in. Assumes nothing.
+use mathlib.Core.Path.{_≡_}
+use Prim.Native.Nat.{_+_, _-_, _≤_}
 use native.Mathlib.Omega.{arith}
-use lib.ListN.{length, drop, replicate, length-set}
-use Rattle.aabb.specs.Vector.{along}
-use Rattle.builder.specs.Bins.{AtMost, filled, noBin}
-use Rattle.builder.proofs.Filling.{fill-again, fill-end, fill-start, most-set, most-start, none-count, with-count}
+use lib.ListN.{length, getD}
+use Rattle.triangle.specs.Mesh.{triangleAt}
+use Rattle.builder.specs.Lanes.{Lanes}
+use Rattle.builder.specs.Tree.{most-triangles}
+use Rattle.builder.proofs.Lanes.{lanes-up}
+use Rattle.builder.proofs.Passes.{bounds-by, centroid-by}
+use Rattle.builder.proofs.Three.{Ahead, ahead-again, ahead-end, ahead-start, one-more, three-more, two-more}
 use borrow.Author.Needs.{needs}
 use Rattle.builder.proofs.bins.fill.Statement.{statement}
 use Rattle.builder.proofs.bins.fill.Tie as tie
 
 abbrev Inv-loop : tie.InvT-loop
-Inv-loop triangles index axis min scale bin₀ i₀ bin i = (i ≤ length index) × (length bin ≡ 16) × (filled triangles axis min scale bin (drop i index) ≡ filled triangles axis min scale (replicate 16 noBin) index) × AtMost i bin
+Inv-loop triangles index min scale boxes₀ counts₀ i₀ boxes counts i = (i ≤ length index) × Lanes i boxes counts × Ahead triangles min scale index i boxes counts × (length index ≤ most-triangles) × (length boxes₀ ≡ 288) × (length counts₀ ≡ 48)
 
 abbrev μ-loop : tie.MeasureT-loop
-μ-loop triangles index axis min scale bin₀ i₀ bin i = length index - i
-
-none-requires : tie.Need-none-requires Inv-loop μ-loop
-none-requires c κs = search needs
+μ-loop triangles index min scale boxes₀ counts₀ i₀ boxes counts i = length index - i
 
 loop-holds : tie.Need-loop-holds Inv-loop μ-loop
 loop-holds c =
-    let a = c .before .before .before .args in (
-      search needs,
-      refl,
-      fill-start (a .triangles .now) (a .axis) (a .min) (a .scale) (c .none .result) (a .index .now) (c .none .ensures),
-      most-start 16 (c .none .result) (none-count (c .none .result) (c .none .ensures)),
-    )
+    let a = c .before .before .before .before .args in
+    let v = c .before .before .before .before .pre .1 in
+    (search needs, v .lanes, ahead-start (a .triangles .now) (a .min) (a .scale) (a .index .now) (a .boxes .now) (a .counts .now) v, c .before .before .before .before .pre .0, v .lanes .boxes-long, v .lanes .counts-long)
 
-mul-wide : tie.Need-mul-wide Inv-loop μ-loop
-mul-wide c = search needs
+mul-corners : tie.Need-mul-corners Inv-loop μ-loop
+mul-corners c = search needs
 
-shared-slice-read-wide : tie.Need-shared-slice-read-wide Inv-loop μ-loop
-shared-slice-read-wide c = search needs
+shared-slice-read-corners : tie.Need-shared-slice-read-corners Inv-loop μ-loop
+shared-slice-read-corners c = omega (arith, c .before .loop-test .taken)
 
-wide-requires : tie.Need-wide-requires Inv-loop μ-loop
-wide-requires c κs = search needs
-
-read-requires : tie.Need-read-requires Inv-loop μ-loop
-read-requires c κs = search needs
+corners-requires : tie.Need-corners-requires Inv-loop μ-loop
+corners-requires c κs = search needs
 
 centroid-requires : tie.Need-centroid-requires Inv-loop μ-loop
 centroid-requires c κs = search needs
 
-along-requires : tie.Need-along-requires Inv-loop μ-loop
-along-requires c κs = search needs
+box-of-requires : tie.Need-box-of-requires Inv-loop μ-loop
+box-of-requires c κs = search needs
 
 bin-of-requires : tie.Need-bin-of-requires Inv-loop μ-loop
 bin-of-requires c κs = search needs
 
-cast-k : tie.Need-cast-k Inv-loop μ-loop
-cast-k c = omega (arith, c .bin-of .ensures .1)
+cast-x : tie.Need-cast-x Inv-loop μ-loop
+cast-x c = omega (arith, c .bin-of .ensures .1)
 
-mul-old : tie.Need-mul-old Inv-loop μ-loop
-mul-old c = omega (arith, c .bin-of .ensures .1)
+bin-of-requires-2 : tie.Need-bin-of-requires-2 Inv-loop μ-loop
+bin-of-requires-2 c κs = search needs
 
-array-copy-out-old : tie.Need-array-copy-out-old Inv-loop μ-loop
-array-copy-out-old c = omega (arith, c .bin-of .ensures .1, c .before .before .before .before .before .before .before .loop .inv .1)
+cast-y : tie.Need-cast-y Inv-loop μ-loop
+cast-y c = omega (arith, c .bin-of2 .ensures .1)
 
-aabb-requires : tie.Need-aabb-requires Inv-loop μ-loop
-aabb-requires c κs = search needs
+bin-of-requires-3 : tie.Need-bin-of-requires-3 Inv-loop μ-loop
+bin-of-requires-3 c κs = search needs
 
-with-requires : tie.Need-with-requires Inv-loop μ-loop
-with-requires c κs = omega (arith, c .before .before .before .before .before .before .before .before .before .loop .inv .3 (c .before .before .bin-of .result), c .before .before .before .before .before .before .before .before .loop-test .taken, c .before .before .before .before .before .before .before .before .before .before .before .before .before .pre)
+cast-z : tie.Need-cast-z Inv-loop μ-loop
+cast-z c = omega (arith, c .bin-of3 .ensures .1)
 
-mul-bin : tie.Need-mul-bin Inv-loop μ-loop
-mul-bin c = omega (arith, c .before .before .before .bin-of .ensures .1)
+put-requires : tie.Need-put-requires Inv-loop μ-loop
+put-requires c κs =
+    let l = c .before .before .before .before .before .before .before .before .before .before .before .before .before .before .before .before .before .before .before .loop in
+    let b = c .before .before .before .before .before .before .before .before .before .before .before .before .before .before .box-of .result in
+    let x = c .before .before .before .before .before .before .before .before .before .before .bin-of in
+    (omega (arith, x .ensures .1), lanes-up (l .i) most-triangles (l .boxes) (l .counts) (omega (arith, c .before .before .before .before .before .before .before .before .before .before .before .before .before .before .before .before .before .before .loop-test .taken, l .inv .3)) (l .inv .1))
 
-array-set-from-bin : tie.Need-array-set-from-bin Inv-loop μ-loop
-array-set-from-bin c = omega (arith, c .before .before .before .bin-of .ensures .1, c .before .before .before .before .before .before .before .before .before .before .loop .inv .1)
+add-put : tie.Need-add-put Inv-loop μ-loop
+add-put c = omega (arith, c .before .before .before .before .before .before .before .before .before .before .before .before .before .bin-of2 .ensures .1)
+
+put-requires-2 : tie.Need-put-requires-2 Inv-loop μ-loop
+put-requires-2 c κs =
+    let l = c .before .before .before .before .before .before .before .before .before .before .before .before .before .before .before .before .before .before .before .before .before .before .before .before .before .before .loop in
+    let b = c .before .before .before .before .before .before .before .before .before .before .before .before .before .before .before .before .before .before .before .before .before .box-of .result in
+    let x = c .before .before .before .before .before .before .before .before .before .before .before .before .before .before .before .before .before .bin-of in
+    let p = c .before .before .before .before .before .before .put .ensures in
+    let y = c .before .before .before .before .before .before .before .before .before .before .before .before .before .bin-of2 in
+    (omega (arith, y .ensures .1), lanes-up (l .i + 1) most-triangles _ _ (omega (arith, c .before .before .before .before .before .before .before .before .before .before .before .before .before .before .before .before .before .before .before .before .before .before .before .before .before .loop-test .taken, l .inv .3)) (one-more (l .boxes) _ (l .counts) _ (x .result) (l .i) b (x .ensures .1) (l .inv .1) (record { boxes-are = p .0; counts-are = p .1 .0 }) (p .1 .1)))
+
+add-put-2 : tie.Need-add-put-2 Inv-loop μ-loop
+add-put-2 c = omega (arith, c .before .before .before .before .before .before .before .before .before .before .before .before .before .before .before .before .bin-of3 .ensures .1)
+
+put-requires-3 : tie.Need-put-requires-3 Inv-loop μ-loop
+put-requires-3 c κs =
+    let l = c .before .before .before .before .before .before .before .before .before .before .before .before .before .before .before .before .before .before .before .before .before .before .before .before .before .before .before .before .before .before .before .before .before .loop in
+    let b = c .before .before .before .before .before .before .before .before .before .before .before .before .before .before .before .before .before .before .before .before .before .before .before .before .before .before .before .before .box-of .result in
+    let x = c .before .before .before .before .before .before .before .before .before .before .before .before .before .before .before .before .before .before .before .before .before .before .before .before .bin-of in
+    let p = c .before .before .before .before .before .before .before .before .before .before .before .before .before .put .ensures in
+    let y = c .before .before .before .before .before .before .before .before .before .before .before .before .before .before .before .before .before .before .before .before .bin-of2 in
+    let q = c .before .before .before .before .before .before .put2 .ensures in
+    let z = c .before .before .before .before .before .before .before .before .before .before .before .before .before .before .before .before .bin-of3 in
+    (omega (arith, z .ensures .1), lanes-up (l .i + 1) most-triangles _ _ (omega (arith, c .before .before .before .before .before .before .before .before .before .before .before .before .before .before .before .before .before .before .before .before .before .before .before .before .before .before .before .before .before .before .before .before .loop-test .taken, l .inv .3)) (two-more (l .boxes) _ (l .counts) _ (x .result) (l .i) b (x .ensures .1) (l .inv .1) (record { boxes-are = p .0; counts-are = p .1 .0 }) (p .1 .1) _ _ (y .result) (y .ensures .1) (record { boxes-are = q .0; counts-are = q .1 .0 }) (q .1 .1)))
 
 add-i : tie.Need-add-i Inv-loop μ-loop
-add-i c = omega (arith, c .before .before .before .before .before .before .before .before .before .loop-test .taken, c .before .before .before .before .before .before .before .before .before .before .before .before .before .before .pre)
+add-i c = omega (arith, c .before .before .before .before .before .before .before .before .before .before .before .before .before .before .before .before .before .before .before .before .before .before .before .before .before .before .before .before .before .before .before .before .before .before .before .before .before .loop-test .taken, c .before .before .before .before .before .before .before .before .before .before .before .before .before .before .before .before .before .before .before .before .before .before .before .before .before .before .before .before .before .before .before .before .before .before .before .before .before .before .loop .inv .3)
 
 loop-less : tie.Need-loop-less Inv-loop μ-loop
-loop-less c = omega (arith, c .before .before .before .before .before .before .before .before .before .loop-test .taken)
+loop-less c = omega (arith, c .before .before .before .before .before .before .before .before .before .before .before .before .before .before .before .before .before .before .before .before .before .before .before .before .before .before .before .before .before .before .before .before .before .before .before .before .before .loop-test .taken)
 
 loop-again : tie.Need-loop-again Inv-loop μ-loop
 loop-again c =
-    let a = c .before .before .before .before .before .before .before .before .before .before .before .before .before .before .args in
-    let l = c .before .before .before .before .before .before .before .before .before .before .loop in
-    let k = c .before .before .before .bin-of in
-    let t = c .before .before .before .before .before .before .read in
-    let w = c .with in (
-      omega (arith, c .before .before .before .before .before .before .before .before .before .loop-test .taken),
-      simp length-set (l .inv .1),
-      fill-again (a .triangles .now) (a .axis) (a .min) (a .scale) (l .bin) (a .index .now) (l .i) (c .before .before .before .before .before .before .before .wide .result) (k .result) (t .result) (c .before .before .before .before .along .result) (c .before .aabb .result) (w .result) _ (c .before .before .before .before .before .before .before .before .before .loop-test .taken) (c .before .before .before .before .before .before .before .wide .ensures) (t .ensures) (c .before .before .before .before .along .ensures ∙ ap (along (a .axis)) (c .before .before .before .before .before .centroid .ensures)) (k .ensures .0) (c .before .aabb .ensures) (w .ensures) (l .inv .2),
-      most-set (l .i) (l .bin) (k .result) (w .result) (l .inv .3) (omega (arith, with-count _ (w .result) (c .before .aabb .result) (w .ensures), l .inv .3 (k .result))),
+    let a = c .before .before .before .before .before .before .before .before .before .before .before .before .before .before .before .before .before .before .before .before .before .before .before .before .before .before .before .before .before .before .before .before .before .before .before .before .before .before .before .before .before .before .before .args in
+    let t = c .before .before .before .before .before .before .before .before .before .before .before .before .before .before .before .before .before .before .before .before .before .before .before .before .before .before .before .before .before .before .before .before .before .before .before .corners in
+    let m = c .before .before .before .before .before .before .before .before .before .before .before .before .before .before .before .before .before .before .before .before .before .before .before .before .before .before .before .before .before .before .before .before .before .before .centroid in
+    let u = c .before .before .before .before .before .before .before .before .before .before .before .before .before .before .before .before .before .before .before .before .before .before .before .before .before .before .before .before .before .before .before .before .before .box-of in
+    let h = c .before .before .before .before .before .before .before .before .before .before .before .before .before .before .before .before .before .before .before .before .before .before .before .before .before .before .before .before .before .before .before .before .before .before .before .before .before .loop-test .taken in
+    let l = c .before .before .before .before .before .before .before .before .before .before .before .before .before .before .before .before .before .before .before .before .before .before .before .before .before .before .before .before .before .before .before .before .before .before .before .before .before .before .loop in
+    let b = c .before .before .before .before .before .before .before .before .before .before .before .before .before .before .before .before .before .before .before .before .before .before .before .before .before .before .before .before .before .before .before .before .before .box-of .result in
+    let x = c .before .before .before .before .before .before .before .before .before .before .before .before .before .before .before .before .before .before .before .before .before .before .before .before .before .before .before .before .before .bin-of in
+    let p = c .before .before .before .before .before .before .before .before .before .before .before .before .before .before .before .before .before .before .put .ensures in
+    let y = c .before .before .before .before .before .before .before .before .before .before .before .before .before .before .before .before .before .before .before .before .before .before .before .before .before .bin-of2 in
+    let q = c .before .before .before .before .before .before .before .before .before .before .before .put2 .ensures in
+    let z = c .before .before .before .before .before .before .before .before .before .before .before .before .before .before .before .before .before .before .before .before .before .bin-of3 in
+    let r = c .before .before .before .before .put3 .ensures in
+    let i = getD (a .index .now) (l .i) 0 in (
+      omega (arith, h),
+      three-more (l .boxes) _ (l .counts) _ (x .result) (l .i) b (x .ensures .1) (l .inv .1) (record { boxes-are = p .0; counts-are = p .1 .0 }) (p .1 .1) _ _ (y .result) (y .ensures .1) (record { boxes-are = q .0; counts-are = q .1 .0 }) (q .1 .1) _ _ (z .result) (z .ensures .1) (record { boxes-are = r .0; counts-are = r .1 .0 }) (r .1 .1),
+      ahead-again (l .boxes) _ (l .counts) _ (x .result) (l .i) b (x .ensures .1) (l .inv .1) (record { boxes-are = p .0; counts-are = p .1 .0 }) (p .1 .1) _ _ (y .result) (y .ensures .1) (record { boxes-are = q .0; counts-are = q .1 .0 }) (q .1 .1) _ _ (z .result) (z .ensures .1) (record { boxes-are = r .0; counts-are = r .1 .0 }) (a .triangles .now) (a .min) (a .scale) (a .index .now) (l .i) (m .result) h
+          (centroid-by (triangleAt (a .triangles .now) i) (t .result .v0) (t .result .v1) (t .result .v2) (m .result) (t .ensures .0) (t .ensures .1) (t .ensures .2) (m .ensures))
+          (bounds-by (a .triangles .now) i (t .result .v0) (t .result .v1) (t .result .v2) b (t .ensures .0) (t .ensures .1) (t .ensures .2) (u .ensures))
+          (x .ensures .0) (y .ensures .0) (z .ensures .0) (l .inv .2),
+      l .inv .3,
+      l .inv .4,
+      l .inv .5,
     )
+
+same-length : tie.Need-same-length Inv-loop μ-loop
+same-length c = let l = c .before .loop in omega (arith, l .inv .1 .boxes-long, l .inv .4)
+
+same-length-2 : tie.Need-same-length-2 Inv-loop μ-loop
+same-length-2 c = let l = c .before .loop in omega (arith, l .inv .1 .counts-long, l .inv .5)
 
 returns : tie.Need-returns Inv-loop μ-loop
 returns c =
-    let a = c .before .before .before .before .before .args in
-    let l = c .before .loop in (
-      sym (fill-end (a .triangles .now) (a .axis) (a .min) (a .scale) (l .bin) (a .index .now) (l .i) (c .loop-test .left)) ∙ l .inv .2,
-      λ j. omega (arith, l .inv .3 j, l .inv .0, c .before .before .before .before .before .pre),
-      l .inv .1,
-    )
+    let a = c .before .before .before .before .before .before .args in
+    let l = c .before .loop in
+    (lanes-up (l .i) most-triangles (l .boxes) (l .counts) (omega (arith, l .inv .0, l .inv .3)) (l .inv .1), ahead-end (a .triangles .now) (a .min) (a .scale) (a .index .now) (l .i) (l .boxes) (l .counts) (c .loop-test .left) (l .inv .2))
 
 pub fill-spec : {M : Type 1} → statement M
 fill-spec =
@@ -104,23 +142,26 @@ fill-spec =
     (tie.spec
     Inv-loop
     μ-loop
-    none-requires
     loop-holds
-    mul-wide
-    shared-slice-read-wide
-    wide-requires
-    read-requires
+    mul-corners
+    shared-slice-read-corners
+    corners-requires
     centroid-requires
-    along-requires
+    box-of-requires
     bin-of-requires
-    cast-k
-    mul-old
-    array-copy-out-old
-    aabb-requires
-    with-requires
-    mul-bin
-    array-set-from-bin
+    cast-x
+    bin-of-requires-2
+    cast-y
+    bin-of-requires-3
+    cast-z
+    put-requires
+    add-put
+    put-requires-2
+    add-put-2
+    put-requires-3
     add-i
     loop-less
     loop-again
+    same-length
+    same-length-2
     returns)

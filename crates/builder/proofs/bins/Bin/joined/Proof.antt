@@ -1,18 +1,23 @@
 -- The fields are the definition's. Assumes nothing.
+use native.Mathlib.Omega.{arith}
 use Rattle.builder.specs.Bins.{joinBins}
-use borrow.Author.Needs.{needs}
 use Rattle.builder.proofs.bins.Bin.joined.Statement.{statement}
 use Rattle.builder.proofs.bins.Bin.joined.Tie as tie
 
-union-requires : tie.Need-union-requires
-union-requires c κs = search needs
+joined-requires : tie.Need-joined-requires
+joined-requires c κs = c .pre .1
 
-add-t5 : tie.Need-add-t5
-add-t5 c = search needs
+add-t4 : tie.Need-add-t4
+add-t4 c = omega (arith, c .before .before .before .pre .0)
 
 returns : tie.Need-returns
 unfolding joinBins
-returns c = cc
+returns c = (cc, c .before .before .joined .ensures .1)
 
 pub joined-spec : {M : Type 1} → statement M
-joined-spec = tie.close (tie.spec union-requires add-t5 returns)
+joined-spec =
+    tie.close
+    (tie.spec
+    joined-requires
+    add-t4
+    returns)

@@ -4,12 +4,16 @@ use borrow.Author.Needs.{needs}
 use Rattle.builder.proofs.bins.Bin.none.Statement.{statement}
 use Rattle.builder.proofs.bins.Bin.none.Tie as tie
 
-empty-requires : tie.Need-empty-requires
-empty-requires c κs = search needs
+nothing-requires : tie.Need-nothing-requires
+nothing-requires c κs = search needs
 
 returns : tie.Need-returns
 unfolding noBin
-returns c = cc
+returns c = (cc, c .nothing .ensures .1)
 
 pub none-spec : {M : Type 1} → statement M
-none-spec = tie.close (tie.spec empty-requires returns)
+none-spec =
+    tie.close
+    (tie.spec
+    nothing-requires
+    returns)

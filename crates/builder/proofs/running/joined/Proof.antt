@@ -1,0 +1,17 @@
+-- Both ends are those of the union. Assumes nothing.
+use Rattle.aabb.specs.Bounds.{union}
+use Rattle.builder.proofs.running.joined.Statement.{statement}
+use Rattle.builder.proofs.running.joined.Tie as tie
+
+lowest-requires : tie.Need-lowest-requires
+lowest-requires c κs = c .pre .0
+
+highest-requires : tie.Need-highest-requires
+highest-requires c κs = c .before .pre .1
+
+returns : tie.Need-returns
+unfolding union
+returns c = (cc, (c .before .lowest .ensures .1, c .highest .ensures .1))
+
+pub joined-spec : {M : Type 1} → statement M
+joined-spec = tie.close (tie.spec lowest-requires highest-requires returns)
