@@ -1,37 +1,16 @@
--- Laws of the bins: the loops that find one and fill them. Assumes nothing.
-use mathlib.Core.Path.{_≡_, refl, sym, _∙_, ap}
-use Prim.Native.Nat.{ℕ, zero, suc, _+_, _-_, _≤_, _<_}
-use native.Mathlib.Omega.{arith}
+-- Laws of the loop that fills the bins. Assumes nothing.
+use mathlib.Core.Path.{_≡_, sym, _∙_, ap}
+use Prim.Native.Nat.{ℕ, _+_, _≤_, _<_}
 use native.Mathlib.Numerals.{add-one}
-use mathlib.Core.Bool.{Bool, true, false, cond}
 use mathlib.Core.List.{List}
 use lib.ListN.{length, getD, set, drop, drop-of-length-le}
 use lib.Seq.{drop-cons}
-use lib.Ieee.{Float, le}
+use lib.Ieee.{Float}
 use Rattle.aabb.specs.declared.bounds.Aabb.{Aabb}
 use Rattle.triangle.specs.Mesh.{boundsAt}
 use Rattle.builder.specs.declared.bins.Bin.{Bin}
-use Rattle.builder.specs.Bins.{binOf, blank, filled, place, whole, withBox}
+use Rattle.builder.specs.Bins.{blank, filled, place, withBox}
 
-pub bin-stop : (k : ℕ) (x : Float) → 0 < k → le (whole k) x ≡ true → binOf k x ≡ k
-unfolding binOf
-bin-stop zero x h p = absurd (omega arith)
-bin-stop (suc k) x h p = rw p
-
-pub bin-go : (k : ℕ) (x : Float) → 0 < k → le (whole k) x ≡ false → binOf k x ≡ binOf (k - 1) x
-unfolding binOf
-bin-go zero x h p = absurd (omega arith)
-bin-go (suc k) x h p = ap (λ (z : Bool). cond z (suc k) (binOf k x)) p ∙ ap (λ (n : ℕ). binOf n x) (less k)
-  where
-    less : (k : ℕ) → k ≡ suc k - 1
-    less k = omega arith
-
-pub bin-end : (k : ℕ) (x : Float) → k ≤ 0 → binOf k x ≡ 0
-unfolding binOf
-bin-end zero x h = refl
-bin-end (suc k) x h = absurd (omega arith)
-
--- ---- filling
 fill-step : (m : List Float) (a : ℕ) (lo sc : Float) (bins : List Bin) (xs : List ℕ) (i : ℕ) → i < length xs
     → filled m a lo sc bins (drop i xs) ≡ filled m a lo sc (set bins (place m a lo sc (getD xs i 0)) (withBox (getD bins (place m a lo sc (getD xs i 0)) blank) (boundsAt m (getD xs i 0)))) (drop (i + 1) xs)
 unfolding filled

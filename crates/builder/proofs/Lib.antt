@@ -1,5 +1,6 @@
 pub mod Clear
 pub mod Passes
+pub mod Halves
 pub mod Filling
 pub mod Lanes
 pub mod Three

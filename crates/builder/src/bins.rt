@@ -11,7 +11,7 @@ ghost use Rattle.aabb.specs.Vector.{along};
 ghost use Rattle.aabb.specs.Bounds.{union, boxAt};
 ghost use Rattle.builder.specs.Tree.{most-triangles};
 ghost use Rattle.builder.specs.Layout.{boxPut};
-ghost use Rattle.builder.specs.Bins.{noBin, joinBins, binOf, filled};
+ghost use Rattle.builder.specs.Bins.{whole, noBin, joinBins, binOf, filled};
 ghost use Rattle.builder.specs.Lanes.{Clear, AllClear, binAt, lane, Lanes, Vacant};
 
 pub struct Bin {
@@ -39,18 +39,37 @@ impl Bin {
     }
 }
 
-// The greatest whole k in 0..15 with k <= x: the cast to `usize` of the Rust, and its `min`.
+// The first of some bins in a row: its number, as a whole number and as a float.
+pub struct Row {
+    pub first: u8,
+    pub low: f64,
+}
+
+// Of twice `half` bins in a row that have the bin of x, the half that has it. `width` is `half` as a float.
+fn upper(row: Row, half: u8, width: f64, x: f64) -> Row
+    requires { ⌜ (row .low ≡ whole (row .first)) × (width ≡ whole half) × (0 < half) × (row .first + half ≤ 15) × (row .first ≤ binOf 15 x) × (binOf 15 x < row .first + half + half) ⌝ }
+    ensures { λ r. ⌜ (r .low ≡ whole (r .first)) × (r .first ≤ row .first + half) × (r .first ≤ binOf 15 x) × (binOf 15 x < r .first + half) ⌝ }
+{
+    let low = row.low + width;
+    if low <= x {
+        return Row {
+            first: row.first + half,
+            low,
+        };
+    }
+    row
+}
+
+// The greatest whole k in 0..15 with k <= x, by four halvings: the cast to `usize` of the Rust, and its `min`.
 pub fn bin_of(x: f64) -> u8
     ensures { λ r. ⌜ (r ≡ binOf 15 x) × (r ≤ 15) ⌝ }
 {
-    let mut k: u8 = 15;
-    while 0 < k {
-        if (k as f64) <= x {
-            return k;
-        }
-        k -= 1;
-    }
-    0
+    let sixteen = Row { first: 0, low: 0.0 };
+    let eight = upper(sixteen, 8, 8.0, x);
+    let four = upper(eight, 4, 4.0, x);
+    let two = upper(four, 2, 2.0, x);
+    let one = upper(two, 1, 1.0, x);
+    one.first
 }
 
 // Bin k of the lent bins, six numbers of box each and a count.

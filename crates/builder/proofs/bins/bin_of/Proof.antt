@@ -1,54 +1,34 @@
--- No k above the present one was at most x. Assumes nothing.
-use mathlib.Core.Path.{_≡_, refl, sym, _∙_}
-use Prim.Native.Nat.{_≤_}
+-- Four halvings leave one bin of sixteen. Assumes nothing.
+use mathlib.Core.Path.{refl}
 use native.Mathlib.Omega.{arith}
-use Rattle.builder.specs.Bins.{binOf}
-use Rattle.builder.proofs.Filling.{bin-end, bin-go, bin-stop}
-use borrow.Author.Needs.{needs}
+use lib.Ieee.{ofBits, ofInt}
+use Rattle.builder.proofs.Halves.{bin-most}
 use Rattle.builder.proofs.bins.bin_of.Statement.{statement}
 use Rattle.builder.proofs.bins.bin_of.Tie as tie
 
-abbrev Inv-loop : tie.InvT-loop
-Inv-loop x k₀ k = (k ≤ 15) × (binOf k x ≡ binOf 15 x)
+upper-requires : tie.Need-upper-requires
+unfolding ofBits ofInt
+upper-requires c κs = (refl, refl, omega arith, omega arith, omega arith, omega (arith, bin-most 15 (c .args .x)))
 
-abbrev μ-loop : tie.MeasureT-loop
-μ-loop x k₀ k = k
+upper-requires-2 : tie.Need-upper-requires-2
+unfolding ofBits ofInt
+upper-requires-2 c κs = let e = c .upper .ensures in (e .0, refl, omega arith, omega (arith, e .1), e .2, omega (arith, e .3))
 
-loop-holds : tie.Need-loop-holds Inv-loop μ-loop
-loop-holds c = (search needs, refl)
+upper-requires-3 : tie.Need-upper-requires-3
+unfolding ofBits ofInt
+upper-requires-3 c κs =
+    let e = c .upper2 .ensures in (e .0, refl, omega arith, omega (arith, e .1, c .before .upper .ensures .1), e .2, omega (arith, e .3))
 
-int-to-float-if1 : tie.Need-int-to-float-if1 Inv-loop μ-loop
-int-to-float-if1 c = search needs
+upper-requires-4 : tie.Need-upper-requires-4
+unfolding ofBits ofInt
+upper-requires-4 c κs =
+    let e = c .upper3 .ensures in (e .0, refl, omega arith, omega (arith, e .1, c .before .upper2 .ensures .1, c .before .before .upper .ensures .1), e .2, omega (arith, e .3))
 
-returns : tie.Need-returns Inv-loop μ-loop
+returns : tie.Need-returns
 returns c =
-    let l = c .before .before .before .loop in
-    (sym (bin-stop (l .k) (c .before .before .before .before .args .x) (c .before .before .loop-test .taken) (c .if1 .taken)) ∙ l .inv .1, l .inv .0)
-
-sub-k : tie.Need-sub-k Inv-loop μ-loop
-sub-k c = search needs
-
-loop-less : tie.Need-loop-less Inv-loop μ-loop
-loop-less c = search needs
-
-loop-again : tie.Need-loop-again Inv-loop μ-loop
-loop-again c =
-    let l = c .before .before .before .loop in
-    (omega arith, sym (bin-go (l .k) (c .before .before .before .before .args .x) (c .before .before .loop-test .taken) (c .if1 .left)) ∙ l .inv .1)
-
-returns-2 : tie.Need-returns-2 Inv-loop μ-loop
-returns-2 c = (sym (bin-end (c .before .loop .k) (c .before .before .args .x) (c .loop-test .left)) ∙ c .before .loop .inv .1, omega arith)
+    let e = c .upper4 .ensures in
+    let x = c .before .before .before .before .args .x in
+    (omega (arith, e .2, e .3), omega (arith, e .2, bin-most 15 x))
 
 pub bin-of-spec : {M : Type 1} → statement M
-bin-of-spec =
-    tie.close
-    (tie.spec
-    Inv-loop
-    μ-loop
-    loop-holds
-    int-to-float-if1
-    returns
-    sub-k
-    loop-less
-    loop-again
-    returns-2)
+bin-of-spec = tie.close (tie.spec upper-requires upper-requires-2 upper-requires-3 upper-requires-4 returns)
