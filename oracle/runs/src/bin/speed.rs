@@ -65,6 +65,23 @@ fn build(mesh: &[f64], lists: &mut Lists) -> [u64; 2] {
     told
 }
 
+/// The tree of a mesh, as it is handed to the walk.
+fn built(mesh: &[f64], r: &mut Random) -> Lists {
+    let n = mesh.len() / 12;
+    let room = node_room(n);
+    let mut lists = Lists::rooms(r, n, 6 * room, 3 * room);
+    let nodes = build(mesh, &mut lists)[0] as usize;
+    lists.boxes.truncate(6 * nodes);
+    lists.links.truncate(3 * nodes);
+    lists
+}
+
+/// Rays through a triangle, along an axis and anywhere, in turn.
+fn mixed(r: &mut Random, mesh: &[f64], count: usize) -> Vec<[f64; 6]> {
+    let kinds = [0, 2, 6].map(|k| rays::KINDS[k].1);
+    (0..count).map(|k| kinds[k % 3](r, mesh)).collect()
+}
+
 fn compare_on(name: &str, mesh: &[f64], r: &mut Random) {
     let n = mesh.len() / 12;
     let triangles = world::triangles(mesh);
@@ -86,8 +103,7 @@ fn compare_on(name: &str, mesh: &[f64], r: &mut Random) {
     lists.boxes.truncate(6 * nodes);
     lists.links.truncate(3 * nodes);
     let tree = world::build_ordered(&triangles).0;
-    let kinds = [0, 2, 6].map(|k| rays::KINDS[k].1);
-    let lent: Vec<[f64; 6]> = (0..RAYS).map(|k| kinds[k % 3](r, mesh)).collect();
+    let lent = mixed(r, mesh, RAYS);
     let given: Vec<Ray> = lent.iter().map(world::ray).collect();
     let (mut hits, mut ours) = (0_u64, 0_u64);
     let walked = least(
@@ -131,13 +147,8 @@ fn compare_on(name: &str, mesh: &[f64], r: &mut Random) {
 /// A panel's rays, as single calls and as one call.
 fn sky_on(name: &str, mesh: &[f64], r: &mut Random) {
     let n = mesh.len() / 12;
-    let room = node_room(n);
-    let mut lists = Lists::rooms(r, n, 6 * room, 3 * room);
-    let nodes = build(mesh, &mut lists)[0] as usize;
-    lists.boxes.truncate(6 * nodes);
-    lists.links.truncate(3 * nodes);
-    let kinds = [0, 2, 6].map(|k| rays::KINDS[k].1);
-    let lent: Vec<[f64; 6]> = (0..SKY).map(|k| kinds[k % 3](r, mesh)).collect();
+    let lists = built(mesh, r);
+    let lent = mixed(r, mesh, SKY);
     let (mut singles, mut told) = (vec![[0; 4]; SKY], vec![0; 4 * SKY]);
     let mut times = vec![0.0; SKY];
     let walked = least(
@@ -186,6 +197,43 @@ fn sky_on(name: &str, mesh: &[f64], r: &mut Random) {
     }
 }
 
+/// How box tests grow with the mesh: the mean over rays from just above a
+/// triangle of the terrain towards a sun that stands high, and of the mixed
+/// rays of the first table.
+fn growth_on(n: usize, r: &mut Random) {
+    let mesh = meshes::terrain(r, n);
+    let lists = built(&mesh, r);
+    let sun: Vec<[f64; 6]> = (0..SKY)
+        .map(|_| {
+            let t = &mesh[12 * r.below(n)..][..9];
+            let mid = |axis: usize| (t[axis] + t[axis + 3] + t[axis + 6]) / 3.0;
+            [mid(0), mid(1), mid(2) + 0.01, 0.5, 0.3, 0.8]
+        })
+        .collect();
+    let mixed = mixed(r, &mesh, SKY);
+    let mean = |lent: &[[f64; 6]]| {
+        let (mut times, mut told) = (vec![0.0; SKY], vec![0; 4 * SKY]);
+        let number = raw::sky(
+            &mesh,
+            &lists.index,
+            &lists.boxes,
+            &lists.links,
+            lent.as_flattened(),
+            &mut times,
+            &mut told,
+            &mut [0],
+        );
+        if number != 0 {
+            stop(&format!("speed: the sky is refused: {number}"));
+        }
+        told.chunks_exact(4)
+            .map(|place| place[2] as f64)
+            .sum::<f64>()
+            / SKY as f64
+    };
+    println!("| {n} | {:.0} | {:.0} |", mean(&sun), mean(&mixed));
+}
+
 fn main() {
     if std::env::args().len() > 1 {
         stop("usage: speed (it takes no words)");
@@ -219,5 +267,12 @@ fn main() {
     println!("|---|---:|---:|---:|");
     for (name, mesh) in &largest {
         sky_on(name, mesh, &mut r);
+    }
+
+    println!("\nBox tests a ray, mean of {SKY}.\n");
+    println!("| triangles of terrain | towards the sun | mixed |");
+    println!("|---:|---:|---:|");
+    for n in [1_000, 4_000, 16_000, 65_536] {
+        growth_on(n, &mut r);
     }
 }
