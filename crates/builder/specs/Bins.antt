@@ -1,5 +1,5 @@
 -- Sixteen bins hold a count and a box each. Definitions only.
-use Prim.Native.Nat.{ℕ, zero, suc, _+_, _≤_}
+use Prim.Native.Nat.{ℕ, zero, suc, _+_}
 use mathlib.Core.Bool.{Bool, cond}
 use mathlib.Core.List.{List, [], _∷_}
 use lib.ListN.{getD, set}
@@ -48,7 +48,3 @@ filled mesh axis min scale bins (i ∷ is) =
 unfoldable pub suffixOf : List Bin → Bin
 suffixOf [] = noBin
 suffixOf (b ∷ bs) = joinBins (suffixOf bs) b
-
--- no bin counts more than n
-abbrev pub AtMost : ℕ → List Bin → Type 0
-AtMost n bs = (i : ℕ) → getD bs i blank .count ≤ n
