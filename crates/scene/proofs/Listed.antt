@@ -1,5 +1,5 @@
 -- The pending nodes as an array and a length: what a step puts there, and what it takes. Assumes nothing.
-use mathlib.Core.Path.{_≡_, refl, ap, _∙_}
+use mathlib.Core.Path.{_≡_, refl, sym, ap, _∙_}
 use mathlib.Core.List.{List, [], _∷_}
 use Prim.Native.Nat.{ℕ, zero, suc, _+_, _-_, _≤_, _<_}
 use native.Mathlib.Numerals.{add-one}
@@ -33,3 +33,13 @@ taken nodes k h = go k (k - 1) (omega arith)
   where
     go : (k m : ℕ) → k ≡ suc m → top nodes k ≡ getD nodes m 0 ∷ top nodes m
     go k m e = rw e
+
+-- and is the first of them
+top-last : (nodes : List ℕ) (k v : ℕ) (rest : List ℕ) → 0 < k → top nodes k ≡ v ∷ rest → getD nodes (k - 1) 0 ≡ v
+top-last nodes k v rest h e = ap (λ (l : List ℕ). getD l 0 0) (sym (taken nodes k h) ∙ e)
+
+pub root-last : (nodes : List ℕ) (len : ℕ) → len ≡ 1 → top nodes len ≡ 0 ∷ [] → getD nodes (len - 1) 0 ≡ 0
+root-last nodes len p e = top-last nodes len 0 [] (omega (arith, p)) e
+
+pub opened-last : (nodes : List ℕ) (len k left : ℕ) (rest : List ℕ) → len ≡ k + 2 → top nodes len ≡ left ∷ rest → getD nodes (len - 1) 0 ≡ left
+opened-last nodes len k left rest p e = top-last nodes len left rest (omega (arith, p)) e

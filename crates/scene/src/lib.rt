@@ -73,6 +73,8 @@ fn run(triangles: &[f64], index: &[u32], boxes: &[f64], links: &[u32], ray: Ray)
     let nodes = links.len() / 3;
     let aim = Aim::of(ray);
     let mut pending = Pending::root();
+    // The last pending number, beside the state: a step need not wait for the array that was just copied.
+    let mut last: u32 = 0;
     let mut a = Tally {
         boxes: 0,
         triangles: 0,
@@ -80,7 +82,7 @@ fn run(triangles: &[f64], index: &[u32], boxes: &[f64], links: &[u32], ray: Ray)
     };
     while 0 < pending.len {
         let besides = pending.len - 1;
-        let i = pending.nodes[besides];
+        let i = last;
         if nodes <= a.boxes as usize {
             return Answer::Refused {
                 number: 12,
@@ -94,10 +96,14 @@ fn run(triangles: &[f64], index: &[u32], boxes: &[f64], links: &[u32], ray: Ray)
             Turn::Down(next) => {
                 a = next;
                 pending = pending.dropped(besides);
+                if 0 < besides {
+                    last = pending.nodes[besides - 1];
+                }
             }
             Turn::Open { left, right, tally } => {
                 a = tally;
                 pending = pending.opened(besides, left, right);
+                last = left;
             }
         }
     }

@@ -10,14 +10,15 @@ use Rattle.scene.specs.Lent.{Lent, lent}
 use Rattle.scene.specs.Walk.{visit}
 use Rattle.scene.proofs.Sighting.{its-ray, its-own}
 use Rattle.scene.proofs.Going.{Going, begun, ended, spent, all-below, ready, stopped, down, down-less, open-room, opens, open-less}
+use Rattle.scene.proofs.Listed.{opened-last, root-last}
 use Rattle.scene.proofs.run.Statement.{statement}
 use Rattle.scene.proofs.run.Tie as tie
 
 abbrev Inv-loop : tie.InvT-loop
-Inv-loop triangles index boxes links ray nodes aim pending₀ a₀ pending a = Going (lent triangles index boxes links) ray nodes pending a
+Inv-loop triangles index boxes links ray nodes aim pending₀ last₀ a₀ pending last a = Going (lent triangles index boxes links) ray nodes pending a × (0 < pending .len → last ≡ getD (pending .nodes) (pending .len - 1) 0)
 
 abbrev μ-loop : tie.MeasureT-loop
-μ-loop triangles index boxes links ray nodes aim pending₀ a₀ pending a = nodes - a .boxes
+μ-loop triangles index boxes links ray nodes aim pending₀ last₀ a₀ pending last a = nodes - a .boxes
 
 small : (c : tie.At-loop Inv-loop μ-loop) (k : ℕ) → getD (c .before .before .before .before .before .before .before .args .links .now) k 0 < 2 ^ 32
 small c k = omega (arith, c .before .before .before .shared-slice-known4 .given k)
@@ -29,39 +30,40 @@ root-requires : tie.Need-root-requires Inv-loop μ-loop
 root-requires c κs = search needs
 
 loop-holds : tie.Need-loop-holds Inv-loop μ-loop
-loop-holds c = let S = c .before .before .before .before .before .before in begun _ _ _ (S .pre .0) (S .pre .1) (c .root .ensures .0) (c .root .ensures .1)
+loop-holds c =
+    let S = c .before .before .before .before .before .before in
+    (begun _ _ _ (S .pre .0) (S .pre .1) (c .root .ensures .0) (c .root .ensures .1), λ h. sym (root-last _ _ (c .root .ensures .0) (c .root .ensures .1)))
 
 sub-besides : tie.Need-sub-besides Inv-loop μ-loop
 sub-besides c = search needs
 
-mul-i : tie.Need-mul-i Inv-loop μ-loop
-mul-i c = let m = c .before .loop .inv .room in omega arith
-
-element-copy-out-i : tie.Need-element-copy-out-i Inv-loop μ-loop
-element-copy-out-i c = let m = c .before .loop .inv .room in omega arith
-
-cast-t26 : tie.Need-cast-t26 Inv-loop μ-loop
-cast-t26 c = let l = c .before .before .before .loop in omega (arith, all-below _ _ _ (l .pending) (l .a) (l .inv) (omega arith) .0, l .inv .few)
+cast-t24 : tie.Need-cast-t24 Inv-loop μ-loop
+cast-t24 c =
+    let l = c .before .before .loop in
+    omega (arith, l .inv .1 (omega arith), all-below _ _ _ (l .pending) (l .a) (l .inv .0) (omega arith) .0, l .inv .0 .few)
 
 -- what `visit` ensures, of the ray itself
 abbrev lists : tie.At-loop Inv-loop μ-loop → Lent
 lists c = let A = c .before .before .before .before .before .before .before .args in lent (A .triangles .now) (A .index .now) (A .boxes .now) (A .links .now)
 
 seen : (v : tie.After-visit Inv-loop μ-loop)
-    → let L = v .before .before .before .before in v .visit .result ≡ visit (lists L) (L .before .before .before .before .before .before .before .args .ray) (getD (L .loop .pending .nodes) (L .loop .pending .len - 1) 0) (L .loop .pending .len - 1) (L .loop .a)
+    → let L = v .before .before .before in v .visit .result ≡ visit (lists L) (L .before .before .before .before .before .before .before .args .ray) (getD (L .loop .pending .nodes) (L .loop .pending .len - 1) 0) (L .loop .pending .len - 1) (L .loop .a)
 seen v =
-    let L = v .before .before .before .before in
-    v .visit .ensures ∙ ap (λ (r : Ray). visit (lists L) r (getD (L .loop .pending .nodes) (L .loop .pending .len - 1) 0) (L .loop .pending .len - 1) (L .loop .a)) (its-ray _ _ (L .before .before .of .ensures))
+    let L = v .before .before .before in
+    v .visit .ensures
+    ∙ ap (λ (r : Ray). visit (lists L) r (L .loop .last) (L .loop .pending .len - 1) (L .loop .a)) (its-ray _ _ (L .before .before .of .ensures))
+    ∙ ap (λ (i : ℕ). visit (lists L) (L .before .before .before .before .before .before .before .args .ray) i (L .loop .pending .len - 1) (L .loop .a)) (L .loop .inv .1 (v .before .before .loop-test .taken))
 
 returns : tie.Need-returns Inv-loop μ-loop
 unfolding told
-returns c = let l = c .before .before .before .loop in spent _ _ _ (l .pending) (l .a) (l .inv) (omega arith) (c .if1 .taken)
+returns c =
+    let l = c .before .before .loop in rw (l .inv .1 (omega arith)) (spent _ _ _ (l .pending) (l .a) (l .inv .0) (omega arith) (c .if1 .taken))
 
 visit-requires : tie.Need-visit-requires Inv-loop μ-loop
 visit-requires c κs =
-    let L = c .before .before .before in
+    let L = c .before .before in
     let l = L .loop in
-    (ready _ _ _ (l .pending) (l .a) (l .inv) (omega arith) (c .if1 .left), its-own _ _ (L .before .before .of .ensures))
+    (rw (l .inv .1 (omega arith)) (ready _ _ _ (l .pending) (l .a) (l .inv .0) (omega arith) (c .if1 .left)), its-own _ _ (L .before .before .of .ensures))
 
 enum-known-number : tie.Need-enum-known-number Inv-loop μ-loop
 enum-known-number c = search needs
@@ -70,9 +72,9 @@ returns-2 : tie.Need-returns-2 Inv-loop μ-loop
 unfolding told
 returns-2 c =
     let v = c .before .before .before in
-    let L = v .before .before .before .before in
+    let L = v .before .before .before in
     let l = L .loop in
-    stopped _ _ _ (l .pending) (l .a) (l .inv) (v .before .before .before .loop-test .taken) (v .before .if1 .left) (v .visit .result) (seen v) _ _ (c .before .number .given .1)
+    stopped _ _ _ (l .pending) (l .a) (l .inv .0) (v .before .before .loop-test .taken) (v .before .if1 .left) (v .visit .result) (seen v) _ _ (c .before .number .given .1)
 
 enum-known-next : tie.Need-enum-known-next Inv-loop μ-loop
 enum-known-next c = search needs
@@ -80,19 +82,50 @@ enum-known-next c = search needs
 dropped-requires : tie.Need-dropped-requires Inv-loop μ-loop
 dropped-requires c κs = search needs
 
+sub-last : tie.Need-sub-last Inv-loop μ-loop
+sub-last c = omega arith
+
+mul-last : tie.Need-mul-last Inv-loop μ-loop
+mul-last c = omega arith
+
+element-copy-out-last : tie.Need-element-copy-out-last Inv-loop μ-loop
+element-copy-out-last c = omega arith
+
 loop-less : tie.Need-loop-less Inv-loop μ-loop
 loop-less c =
-    let v = c .before .before .before .before in
-    let L = v .before .before .before .before in
+    let d = c .before .before in
+    let v = d .before .before .before .before in
+    let L = v .before .before .before in
     let l = L .loop in
-    omega (arith, v .before .if1 .left, down-less _ _ _ (l .pending) (l .a) (l .inv) (v .before .before .before .loop-test .taken) (v .before .if1 .left) (v .visit .result) (seen v) (small L) _ (c .before .before .next .given .1))
+    omega (arith, v .before .if1 .left, down-less _ _ _ (l .pending) (l .a) (l .inv .0) (v .before .before .loop-test .taken) (v .before .if1 .left) (v .visit .result) (seen v) (small L) _ (d .before .before .next .given .1))
 
 loop-again : tie.Need-loop-again Inv-loop μ-loop
 loop-again c =
-    let v = c .before .before .before .before in
-    let L = v .before .before .before .before in
+    let d = c .before .before in
+    let v = d .before .before .before .before in
+    let L = v .before .before .before in
+    let l = L .loop in (
+      down _ _ _ (l .pending) (l .a) (l .inv .0) (v .before .before .loop-test .taken) (v .before .if1 .left) (v .visit .result) (seen v) (small L) (d .dropped .result) _ (d .before .before .next .given .1) (d .dropped .ensures .0) (d .dropped .ensures .1),
+      λ h. ap (λ (k : ℕ). getD (d .dropped .result .nodes) (k - 1) 0) (sym (d .dropped .ensures .0)),
+    )
+
+loop-less-2 : tie.Need-loop-less-2 Inv-loop μ-loop
+loop-less-2 c =
+    let d = c .before in
+    let v = d .before .before .before .before in
+    let L = v .before .before .before in
     let l = L .loop in
-    down _ _ _ (l .pending) (l .a) (l .inv) (v .before .before .before .loop-test .taken) (v .before .if1 .left) (v .visit .result) (seen v) (small L) (c .dropped .result) _ (c .before .before .next .given .1) (c .dropped .ensures .0) (c .dropped .ensures .1)
+    omega (arith, v .before .if1 .left, down-less _ _ _ (l .pending) (l .a) (l .inv .0) (v .before .before .loop-test .taken) (v .before .if1 .left) (v .visit .result) (seen v) (small L) _ (d .before .before .next .given .1))
+
+loop-again-2 : tie.Need-loop-again-2 Inv-loop μ-loop
+loop-again-2 c =
+    let d = c .before in
+    let v = d .before .before .before .before in
+    let L = v .before .before .before in
+    let l = L .loop in (
+      down _ _ _ (l .pending) (l .a) (l .inv .0) (v .before .before .loop-test .taken) (v .before .if1 .left) (v .visit .result) (seen v) (small L) (d .dropped .result) _ (d .before .before .next .given .1) (d .dropped .ensures .0) (d .dropped .ensures .1),
+      λ h. absurd (omega (arith, h, c .if2 .left, d .dropped .ensures .0)),
+    )
 
 enum-known-left : tie.Need-enum-known-left Inv-loop μ-loop
 enum-known-left c = search needs
@@ -100,29 +133,29 @@ enum-known-left c = search needs
 opened-requires : tie.Need-opened-requires Inv-loop μ-loop
 opened-requires c κs =
     let v = c .before .before .before in
-    let L = v .before .before .before .before in
+    let L = v .before .before .before in
     let l = L .loop in
-    open-room _ _ _ (l .pending) (l .a) (l .inv) (v .before .before .before .loop-test .taken) (v .before .if1 .left) (v .visit .result) (seen v) (small L) _ _ _ (c .before .left .given .1)
+    open-room _ _ _ (l .pending) (l .a) (l .inv .0) (v .before .before .loop-test .taken) (v .before .if1 .left) (v .visit .result) (seen v) (small L) _ _ _ (c .before .left .given .1)
 
-loop-less-2 : tie.Need-loop-less-2 Inv-loop μ-loop
-loop-less-2 c =
+loop-less-3 : tie.Need-loop-less-3 Inv-loop μ-loop
+loop-less-3 c =
     let v = c .before .before .before .before in
-    let L = v .before .before .before .before in
+    let L = v .before .before .before in
     let l = L .loop in
-    omega (arith, v .before .if1 .left, open-less _ _ _ (l .pending) (l .a) (l .inv) (v .before .before .before .loop-test .taken) (v .before .if1 .left) (v .visit .result) (seen v) (small L) _ _ _ (c .before .before .left .given .1))
+    omega (arith, v .before .if1 .left, open-less _ _ _ (l .pending) (l .a) (l .inv .0) (v .before .before .loop-test .taken) (v .before .if1 .left) (v .visit .result) (seen v) (small L) _ _ _ (c .before .before .left .given .1))
 
-loop-again-2 : tie.Need-loop-again-2 Inv-loop μ-loop
-loop-again-2 c =
+loop-again-3 : tie.Need-loop-again-3 Inv-loop μ-loop
+loop-again-3 c =
     let v = c .before .before .before .before in
-    let L = v .before .before .before .before in
+    let L = v .before .before .before in
     let l = L .loop in
-    opens _ _ _ (l .pending) (l .a) (l .inv) (v .before .before .before .loop-test .taken) (v .before .if1 .left) (v .visit .result) (seen v) (small L) (c .opened .result) _ _ _ (c .before .before .left .given .1) (c .opened .ensures .0) (c .opened .ensures .1)
+    (opens _ _ _ (l .pending) (l .a) (l .inv .0) (v .before .before .loop-test .taken) (v .before .if1 .left) (v .visit .result) (seen v) (small L) (c .opened .result) _ _ _ (c .before .before .left .given .1) (c .opened .ensures .0) (c .opened .ensures .1), λ h. sym (opened-last _ _ _ _ _ (c .opened .ensures .0) (c .opened .ensures .1)))
 
 over-requires : tie.Need-over-requires Inv-loop μ-loop
 over-requires c κs = search needs
 
 returns-3 : tie.Need-returns-3 Inv-loop μ-loop
-returns-3 c = let l = c .before .before .loop in c .over .ensures ∙ ended _ _ _ (l .pending) (l .a) (l .inv) (omega arith)
+returns-3 c = let l = c .before .before .loop in c .over .ensures ∙ ended _ _ _ (l .pending) (l .a) (l .inv .0) (omega arith)
 
 pub run-spec : {M : Type 1} → statement M
 run-spec =
@@ -134,20 +167,23 @@ run-spec =
     root-requires
     loop-holds
     sub-besides
-    mul-i
-    element-copy-out-i
-    cast-t26
+    cast-t24
     returns
     visit-requires
     enum-known-number
     returns-2
     enum-known-next
     dropped-requires
+    sub-last
+    mul-last
+    element-copy-out-last
     loop-less
     loop-again
-    enum-known-left
-    opened-requires
     loop-less-2
     loop-again-2
+    enum-known-left
+    opened-requires
+    loop-less-3
+    loop-again-3
     over-requires
     returns-3)
