@@ -2,19 +2,43 @@
 // `select_nth_unstable_by` of the Rust, which leaves the order open. A heap sort: in place, and n log n on any range.
 use crate::range;
 ghost use mathlib.Core.Path.{_≡_};
-ghost use Prim.Native.Nat.{_+_, _*_, _≤_, _<_};
-ghost use lib.ListN.{length};
+ghost use Prim.Native.Nat.{ℕ, _+_, _*_, _≤_, _<_};
+ghost use lib.ListN.{length, getD};
+ghost use lib.Ieee.{Float};
 ghost use Rattle.triangle.specs.Mesh.{centroidAt};
 ghost use Rattle.builder.specs.Tree.{most-triangles};
 ghost use Rattle.builder.specs.Fallback.{ahead, ordered};
 ghost use Rattle.builder.specs.Heap.{Perm, HeapFrom, Greater};
 
+// A triangle number, and the centroid of that triangle on the axis of the order: worked out once for several comparisons.
+pub struct Ranked {
+    pub number: u32,
+    pub centroid: f64,
+}
+
+impl Ranked {
+    pub fn of(triangles: &[f64], axis: usize, number: u32) -> Ranked
+        ensures { λ r. ⌜ (r .number ≡ number) × (r .centroid ≡ centroidAt (now (triangles .entry)) axis (r .number)) ⌝ }
+    {
+        Ranked {
+            number,
+            centroid: range::centroid_on(triangles, number, axis),
+        }
+    }
+}
+
+// A place of the heap, and what stands there.
+pub struct Child {
+    pub place: usize,
+    pub own: Ranked,
+}
+
 // Whether triangle a comes before triangle b. Numbers that differ, and equal ones but zeros, are told by comparisons; `total_cmp` for the rest.
-pub fn is_ahead(triangles: &[f64], axis: usize, a: u32, b: u32) -> bool
-    ensures { λ r. ⌜ r ≡ ahead (centroidAt (now (triangles .entry)) axis) a b ⌝ }
+pub fn is_ahead(a: Ranked, b: Ranked) -> bool
+    ensures { λ r. ⌜ ((at : ℕ → Float) → a .centroid ≡ at (a .number) → b .centroid ≡ at (b .number) → r ≡ ahead at (a .number) (b .number)) ⌝ }
 {
-    let x = range::centroid_on(triangles, a, axis);
-    let y = range::centroid_on(triangles, b, axis);
+    let x = a.centroid;
+    let y = b.centroid;
     if x < y {
         return true;
     }
@@ -24,7 +48,7 @@ pub fn is_ahead(triangles: &[f64], axis: usize, a: u32, b: u32) -> bool
     if x == y {
         if x != 0.0 {
             if y != 0.0 {
-                return a < b;
+                return a.number < b.number;
             }
         }
     }
@@ -34,38 +58,52 @@ pub fn is_ahead(triangles: &[f64], axis: usize, a: u32, b: u32) -> bool
     if order::total_less(y, x) {
         return false;
     }
-    a < b
+    a.number < b.number
 }
 
 // The greater child of place i of the heap.
-pub fn greater_child(triangles: &[f64], index: &[u32], axis: usize, i: usize) -> usize
+pub fn greater_child(triangles: &[f64], index: &[u32], axis: usize, i: usize) -> Child
     requires { ⌜ 2 * i + 1 < length (now index) ⌝ }
-    ensures { λ r. ⌜ Greater (ahead (centroidAt (now (triangles .entry)) axis)) (now (index .entry)) i r ⌝ }
+    ensures { λ r. ⌜ Greater (ahead (centroidAt (now (triangles .entry)) axis)) (now (index .entry)) i (r .place) ⌝ }
+    ensures { λ r. ⌜ (r .own .number ≡ getD (now (index .entry)) (r .place) 0) × (r .own .centroid ≡ centroidAt (now (triangles .entry)) axis (r .own .number)) ⌝ }
 {
     let l = 2 * i + 1;
+    let left = Ranked::of(triangles, axis, index[l]);
     if index.len() - l < 2 {
-        return l;
+        return Child {
+            place: l,
+            own: left,
+        };
     }
     let r = l + 1;
-    if is_ahead(triangles, axis, index[l], index[r]) {
-        return r;
+    let right = Ranked::of(triangles, axis, index[r]);
+    if is_ahead(left, right) {
+        return Child {
+            place: r,
+            own: right,
+        };
     }
-    l
+    Child {
+        place: l,
+        own: left,
+    }
 }
 
 // The number at `at` goes down to its place: what was a heap below `at` is one from `at` on.
 pub fn sift(triangles: &[f64], index: &mut [u32], axis: usize, at: usize)
-    requires { ⌜ (length (now index) ≤ most-triangles) × (at ≤ most-triangles) ⌝ }
+    requires { ⌜ (length (now index) ≤ most-triangles) × (at < length (now index)) ⌝ }
     requires { ⌜ HeapFrom (ahead (centroidAt (now triangles) axis)) (at + 1) (now index) ⌝ }
     ensures { λ _. ⌜ Perm (now (index .exit)) (now (index .entry)) ⌝ }
     ensures { λ _. ⌜ HeapFrom (ahead (centroidAt (now (triangles .entry)) axis)) at (now (index .exit)) ⌝ }
 {
+    let own = Ranked::of(triangles, axis, index[at]);
     let mut i = at;
     while 2 * i + 1 < index.len() {
         let g = greater_child(triangles, index, axis, i);
-        if is_ahead(triangles, axis, index[i], index[g]) {
-            range::swap(index, i, g);
-            i = g;
+        let place = g.place;
+        if is_ahead(own, g.own) {
+            range::swap(index, i, place);
+            i = place;
         } else {
             return;
         }
