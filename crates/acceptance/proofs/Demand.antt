@@ -14,13 +14,12 @@ use Rattle.builder.proofs.Successes.{success, exact, accepted as accepted-lists
 use Rattle.scene.specs.Lent.{Lent, lent, triangleCount}
 use Rattle.scene.specs.Answer.{Told}
 use Rattle.scene.specs.Walk.{over, walk}
-use Rattle.scene.specs.Tree.{Tree, size, leaves, Holds, Accepted}
-use Rattle.scene.specs.Leaves.{leavesOf, SameLeaves, withIndex, Reordered}
+use Rattle.scene.specs.Tree.{Tree, size, leaves, Accepted}
 use Rattle.scene.proofs.Accepting.{short, odd-size, accepted, few-tests}
 use Rattle.scene.proofs.NearestHit.{walk-nearest, walk-clear}
 use Rattle.scene.proofs.SameHit.{same-leaves-hit, reordered-hit}
 use Rattle.acceptance.specs.Handed.{handedAs, handed}
-use Rattle.acceptance.specs.Demand.{Demand3}
+use Rattle.acceptance.specs.Demand.{Demand3, Signed}
 use Rattle.acceptance.proofs.Bridge.{asTree, size-as, leaves-as, accepted-as}
 
 module _ (s : Lent) (t : Tree) (r : Ray) (A : Accepted s t) (R : T (admittedRay r)) where
@@ -41,19 +40,7 @@ module _ (s : Lent) (t : Tree) (r : Ray) (A : Accepted s t) (R : T (admittedRay 
         no-hit = walk-clear s t r A R;
       }
 
--- ---- what is signed
--- A mesh that `build` serves, whatever room was lent, and its tree handed to the walk: its lists hold a tree of 2L-1 nodes and L leaves, and the walk of every admitted ray meets demand 3.
-pub record Signed (s : Lent) (nodes leaf-count : ℕ) (r : Ray) : Type 0 where
-  pub tree : Tree
-  pub held : Holds s 0 tree
-  pub nodes-are : size tree ≡ nodes
-  pub leaves-are : leaves tree ≡ leaf-count
-  pub odd : nodes + 1 ≡ 2 * leaf-count
-  pub answer : Demand3 s tree r
-  -- Any accepted tree over the same triangles with the same leaves has the same hit, in whatever order it walks them, and so has any order of the index list within the leaves.
-  pub settled : (s′ : Lent) (t′ : Tree) → s .triangles ≡ s′ .triangles → Accepted s′ t′ → SameLeaves (leavesOf s tree) (leavesOf s′ t′) → walk s r .hit ≡ walk s′ r .hit
-  pub any-order : (order : List ℕ) → Reordered s order tree → walk s r .hit ≡ walk (withIndex s order) r .hit
-
+-- ---- a built tree
 module _ (mesh : List Float) (index : List ℕ) (boxes : List Float) (links : List ℕ) (nodes leaf-count : ℕ) (r : Ray) where
   abbrev left : Outcome
   left = built mesh index boxes links

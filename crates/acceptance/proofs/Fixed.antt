@@ -4,6 +4,12 @@ use native.Mathlib.Omega.{arith}
 use mathlib.Core.Path.{_≡_, refl, sym, _∙_, ap}
 use mathlib.Core.List.{List}
 use lib.Ieee.{Float}
+use Rattle.order.specs.Number.{nought}
+use Rattle.aabb.specs.declared.vector.Vec3.{Vec3}
+use Rattle.aabb.specs.Vector.{vec}
+use Rattle.triangle.specs.declared.Corners.{Corners}
+use Rattle.triangle.specs.declared.Triangle.{Triangle}
+use Rattle.triangle.specs.declared.Distance.{Distance}
 use Rattle.triangle.specs.declared.Hit.{Hit}
 use Rattle.triangle.specs.declared.Found.the-variants.{At, Nothing}
 use Rattle.builder.specs.declared.Built.{Built}
@@ -14,10 +20,23 @@ use Rattle.scene.specs.Answer.{Told, none, numbered, told}
 use Rattle.scene.specs.declared.rays.Filled.{Filled}
 use Rattle.scene.specs.Sky.{Outcome as Filling, outcome as filling}
 
--- Every public call of `order`, `aabb` and `triangle` promises `r ≡ d`, with d a definition of what it was given: two answers r and r' that
--- the promise allows are equal.
+-- Every public call of `order`, `aabb` and `triangle` but those of `Corners` promises `r ≡ d`, with d a definition of what it was given: two
+-- answers r and r' that the promise allows are equal.
 pub fixed : {A : Type 0} {r r' d : A} → r ≡ d → r' ≡ d → r ≡ r'
 fixed p q = p ∙ sym q
+
+-- `Corners::read` and `Triangle::corners` promise the three vertices of a triangle, `Corners::distance` the distance at whatever normal
+pub corners-fixed : (c c' : Corners) (t : Triangle) → (c .v0 ≡ t .v0) × (c .v1 ≡ t .v1) × (c .v2 ≡ t .v2) → (c' .v0 ≡ t .v0) × (c' .v1 ≡ t .v1) × (c' .v2 ≡ t .v2) → c ≡ c'
+corners-fixed c c' t p q = alike (fixed (p .0) (q .0)) (fixed (p .1) (q .1)) (fixed (p .2) (q .2))
+  where
+    corners : Vec3 → Vec3 → Vec3 → Corners
+    corners a b c = record { v0 = a; v1 = b; v2 = c }
+
+    alike : {a a' b b' d d' : Vec3} → a ≡ a' → b ≡ b' → d ≡ d' → corners a b d ≡ corners a' b' d'
+    alike e f g = rw (e, f, g)
+
+pub distance-fixed : (d d' : Distance) (at : Vec3 → Distance) → ((normal : Vec3) → d ≡ at normal) → ((normal : Vec3) → d' ≡ at normal) → d ≡ d'
+distance-fixed d d' at p q = let any = vec nought nought nought in fixed (p any) (q any)
 
 -- `build`: the answer, and the index list, boxes and links at the end
 pub build-fixed : (a a' : Built) (index index' : List ℕ) (boxes boxes' : List Float) (links links' : List ℕ) (d : Outcome) → outcome a index boxes links ≡ d → outcome a' index' boxes' links' ≡ d

@@ -20,14 +20,15 @@ use Rattle.builder.specs.Fallback.{underAt, ahead as builder-ahead, insert, sor
 use Rattle.builder.specs.Tree.{joined, decision, leafOf, grow}
 use Rattle.builder.specs.Layout.{boxPut, linkPut, boxesOf, linksOf}
 use Rattle.builder.specs.Build.{upTo, room, firstRefused, finished, checked, cramped, built}
-use Rattle.scene.specs.Lent.{nodeAt, sound, leftOf, rightOf}
+use Rattle.scene.specs.Lent.{triangleCount, nodeAt, sound, leftOf, rightOf}
 use Rattle.scene.specs.Walk.{boxed, replaces, nearer, after, tested, scan, openLeaf, openInternal, opened, judged as scene-judged, visit, hitOf, over, run, misfit, walk}
 use Rattle.acceptance.specs.Handed.{handedAs, handed}
-use Rattle.acceptance.specs.Probes.{Probe, slabbed, grown as built-row, walked, Claim, builtWhole, probes}
-use Rattle.acceptance.proofs.Same.{sameSpan, span-is, sameOutcome, outcome-is, sameTold, told-is}
+use Rattle.acceptance.specs.Probes.{Probe, slabbed, split, grown as built-row, walked, Claim, All, builtWhole, probes}
+use Rattle.acceptance.proofs.Same.{sameSpan, span-is, sameSplit, split-is, sameOutcome, outcome-is, sameTold, told-is}
 
 abbrev holds : Probe → Bool
 holds (slabbed r b s) = sameSpan (slab r b) s
+holds (split mesh d) = sameSplit (decision mesh (upTo (triangleCount mesh))) d
 holds (built-row mesh o) = sameOutcome (builtWhole mesh) o
 holds (walked mesh r t) = sameTold (walk (handed mesh (builtWhole mesh)) r) t
 
@@ -35,13 +36,9 @@ abbrev allHold : List Probe → Bool
 allHold [] = true
 allHold (p ∷ ps) = holds p && allHold ps
 
--- every row's claim
-abbrev pub All : List Probe → Type 0
-All [] = Unit {0}
-All (p ∷ ps) = Claim p × All ps
-
 claim : (p : Probe) → T (holds p) → Claim p
 claim (slabbed r b s) h = span-is (slab r b) s h
+claim (split mesh d) h = split-is (decision mesh (upTo (triangleCount mesh))) d h
 claim (built-row mesh o) h = outcome-is (builtWhole mesh) o h
 claim (walked mesh r t) h = told-is (walk (handed mesh (builtWhole mesh)) r) t h
 

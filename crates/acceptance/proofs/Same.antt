@@ -16,6 +16,8 @@ use Rattle.triangle.specs.declared.Found.{Found}
 use Rattle.triangle.specs.declared.Found.the-variants.{At, Nothing}
 use Rattle.builder.specs.declared.Built.{Built}
 use Rattle.builder.specs.declared.Built.the-variants.{Tree, Refused}
+use Rattle.builder.specs.declared.split.SplitDecision.{SplitDecision}
+use Rattle.builder.specs.declared.split.SplitDecision.the-variants.{Split, MakeLeaf}
 use Rattle.builder.specs.Build.{Outcome, outcome}
 use Rattle.scene.specs.Answer.{Told, Refusal, none, numbered}
 
@@ -90,6 +92,19 @@ span-is Missed Missed h = refl
 span-is (Passed a b) (Passed c d) h = let p = float-is a c (and-l (sameFloat a c) (sameFloat b d) h) in let q = float-is b d (and-r (sameFloat a c) (sameFloat b d) h) in rw (p, q)
 span-is Missed (Passed c d) h = absurd h
 span-is (Passed a b) Missed h = absurd h
+
+-- ---- splits
+abbrev pub sameSplit : SplitDecision → SplitDecision → Bool
+sameSplit MakeLeaf MakeLeaf = true
+sameSplit (Split a p) (Split b q) = eqb a b && sameFloat p q
+sameSplit MakeLeaf (Split b q) = false
+sameSplit (Split a p) MakeLeaf = false
+
+pub split-is : (x y : SplitDecision) → T (sameSplit x y) → x ≡ y
+split-is MakeLeaf MakeLeaf h = refl
+split-is (Split a p) (Split b q) h = let e = eqb→eq a b (and-l (eqb a b) (sameFloat p q) h) in let f = float-is p q (and-r (eqb a b) (sameFloat p q) h) in rw (e, f)
+split-is MakeLeaf (Split b q) h = absurd h
+split-is (Split a p) MakeLeaf h = absurd h
 
 -- ---- hits
 abbrev sameVector : Vec3 → Vec3 → Bool

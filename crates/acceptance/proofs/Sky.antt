@@ -28,8 +28,8 @@ use Rattle.scene.proofs.Room.{place-k}
 use Rattle.scene.proofs.Whole.{sky-filled}
 use Rattle.acceptance.specs.Handed.{handedAs, handed}
 use Rattle.acceptance.specs.Demand.{Demand3}
-use Rattle.acceptance.specs.Sky.{Demand3At}
-use Rattle.acceptance.proofs.Demand.{Signed, built-walk}
+use Rattle.acceptance.specs.Sky.{Demand3At, SignedPlace, SignedSky}
+use Rattle.acceptance.proofs.Demand.{built-walk}
 
 -- ---- what a place tells of a walk that is served
 hit-place : (a : Told) (h : Hit) → a .refusal ≡ none → a .hit ≡ At h → placeOf a ≡ record { outcome = 100; which = h .triangle; t = h .t; boxes = a .boxes; triangles = a .triangles }
@@ -74,15 +74,7 @@ module _ (s : Lent) (t : Tree) (r : Ray) (D : Demand3 s t r) where
   pub demand-3-at : (p : Place) → p ≡ placeOf (walk s r) → Demand3At s t r p
   demand-3-at p e = rw e (by-hit (walk s r .hit) refl)
 
--- ---- what is signed
-pub record SignedPlace (s : Lent) (nodes leaf-count : ℕ) (r : Ray) (p : Place) : Type 0 where
-  pub walked : Signed s nodes leaf-count r
-  pub told : Demand3At s (walked .tree) r p
-
-pub record SignedSky (s : Lent) (nodes leaf-count : ℕ) (rays : List Float) (o : Filling) : Type 0 where
-  pub served : o .answer ≡ Places
-  pub each : (k : ℕ) → k < rayCount rays → T (admittedRay (rayAt rays k)) → SignedPlace s nodes leaf-count (rayAt rays k) (placeAt (o .times) (o .told) k)
-
+-- ---- a built tree
 handed-mesh : (mesh : List Float) (o : Outcome) → handed mesh o .triangles ≡ mesh
 unfolding handed handedAs
 handed-mesh mesh o = go (o .answer)

@@ -17,7 +17,10 @@ use Rattle.aabb.specs.Slab.{slab}
 use Rattle.triangle.specs.declared.Hit.{Hit}
 use Rattle.triangle.specs.declared.Found.the-variants.{At, Nothing}
 use Rattle.builder.specs.declared.Built.the-variants.{Tree}
-use Rattle.builder.specs.Build.{Outcome, outcome, room, built}
+use Rattle.builder.specs.declared.split.SplitDecision.{SplitDecision}
+use Rattle.builder.specs.declared.split.SplitDecision.the-variants.{Split}
+use Rattle.builder.specs.Tree.{decision}
+use Rattle.builder.specs.Build.{Outcome, outcome, room, upTo, built}
 use Rattle.scene.specs.Lent.{triangleCount}
 use Rattle.scene.specs.Answer.{Told, none}
 use Rattle.scene.specs.Walk.{walk}
@@ -44,6 +47,8 @@ quarter = over 1 2
 pub data Probe : Type 0 where
   -- a ray against a box: the times, or none
   slabbed : Ray → Aabb → Span → Probe
+  -- the split of a whole mesh
+  split : List Float → SplitDecision → Probe
   -- a mesh, built in room that just suffices
   grown : List Float → Outcome → Probe
   -- a ray walked through the built tree of a mesh
@@ -55,8 +60,14 @@ builtWhole mesh = built mesh (replicate (triangleCount mesh) 0) (replicate (room
 
 abbrev pub Claim : Probe → Type 0
 Claim (slabbed r b s) = slab r b ≡ s
+Claim (split mesh d) = decision mesh (upTo (triangleCount mesh)) ≡ d
 Claim (grown mesh o) = builtWhole mesh ≡ o
 Claim (walked mesh r t) = walk (handed mesh (builtWhole mesh)) r ≡ t
+
+-- every row's claim
+abbrev pub All : List Probe → Type 0
+All [] = Unit {0}
+All (p ∷ ps) = Claim p × All ps
 
 -- ---- what the rows speak of
 abbrev ray : Vec3 → Vec3 → Ray
@@ -127,6 +138,7 @@ probes =
     -- P9 five copies of T: one leaf of 5
     grown (T ++ T ++ T ++ T ++ T) (outcome (Tree 1 1) (0 ∷ 1 ∷ 2 ∷ 3 ∷ 4 ∷ []) (flat ++ replicate 48 (int 0)) (0 ∷ 5 ∷ 1 ∷ replicate 24 0)) ∷
     -- P10 five triangles: split on x at 21; index list 0,1,3,4,2; root left 1; leaves (0,2) and (2,3)
+    split five (Split 0 (int 21)) ∷
     grown five
     (outcome (Tree 3 2) (0 ∷ 1 ∷ 3 ∷ 4 ∷ 2 ∷ []) (along-x (int 0) (int 67) ++ along-x (int 0) (int 19) ++ along-x (times 1 5) (int 67) ++ replicate 36 (int 0))
     (1 ∷ 0 ∷ 0 ∷ 0 ∷ 2 ∷ 1 ∷ 2 ∷ 3 ∷ 1 ∷ replicate 18 0)) ∷
