@@ -70,7 +70,7 @@ abbrev pub Runs : ℕ → ℕ → Tree → Type 0
 Runs a b (leaf x f c) = (f ≡ a) × (b ≡ a + c)
 Runs a b (fork x l r) = (m : ℕ) × Runs a m l × Runs m b r
 
--- ---- what a walk needs of a mesh, an index list and the nodes
+-- ---- what a build's lists have: all that a walk needs of a mesh, an index list and the nodes, and leaf ranges in order
 pub record Accepted (mesh : List Float) (index : List ℕ) (boxes : List Float) (links : List ℕ) (t : Tree) : Type 0 where
   pub whole : length mesh % 12 ≡ 0
   pub few : length mesh / 12 ≤ most-triangles

@@ -1,4 +1,4 @@
--- What each exported call answers and leaves in the lent arrays, as its line of the boundary's table says. Definitions only.
+-- What each exported call answers and leaves in the lent arrays, as the comment at the call says (src/lib.rt). Definitions only.
 use Prim.Native.Nat.{ℕ}
 use mathlib.Core.Bool.{cond}
 use mathlib.Core.List.{List, [], _∷_}

@@ -53,13 +53,14 @@ pub fn greater(run: f64, x: f64) -> f64
     run
 }
 
-// Beside a running number that is no NaN, the lesser and the greater by one comparison (proofs/Pick.antt: `lower-is`, `higher-is`).
+// Beside a running number that is no NaN, the lesser by one comparison (proofs/Pick.antt: `lower-is`); a running NaN is kept.
 pub fn lower(run: f64, x: f64) -> f64
     ensures { λ r. ⌜ r ≡ cond (lt x run) x run ⌝ }
 {
     if run > x { x } else { run }
 }
 
+// The greater, likewise (`higher-is`).
 pub fn higher(run: f64, x: f64) -> f64
     ensures { λ r. ⌜ r ≡ cond (lt run x) x run ⌝ }
 {

@@ -74,7 +74,7 @@ abbrev pub Nested : Tree → Type 0
 Nested (leaf b p c) = T (usable b)
 Nested (internal b u v) = T (usable b) × In b u × In b v × Nested u × Nested v
 
--- lists that a walk accepts: those of a tree over admitted triangles, with nodes at depth 63 at most and every index entry in a leaf
+-- lists that a walk accepts: those of a tree over admitted triangles, with nodes at depth 63 at most and as many places in leaves as the index list has
 pub record Accepted (s : Lent) (t : Tree) : Type 0 where
   pub whole : length (s .triangles) % 12 ≡ 0
   pub few : triangleCount (s .triangles) ≤ most-triangles

@@ -148,10 +148,11 @@ fn cast(
     run(triangles, index, boxes, links, ray)
 }
 
-// The nearest hit of the ray among the triangles of the leaves whose boxes it passes, at an equal t the one of the lowest number, or a miss,
-// with the box tests and the triangle tests made; or a refusal: 1 triangles not a multiple of 12 long; 2 more than 65,536 of them; 7 the ray
-// isn't admitted; 8 links empty, not a multiple of 3, over 131,071 nodes, or boxes not twice as long; then by steps 12 a box test beyond the
-// number of nodes, 9 a bad node, 10 an index entry of n or more, 5 a triangle that isn't admitted, 11 more than 64 pending. It writes nothing.
+// The nearest hit of the ray among the triangles of the leaves that it reaches, from node 0 on through boxes that it passes, at an equal t the
+// one of the lowest number, or a miss, with the box tests and the triangle tests made; or a refusal: 1 triangles not a multiple of 12 long;
+// 2 more than 65,536 of them (at: how many); 7 the ray isn't admitted; 8 links empty, not a multiple of 3, over 131,071 nodes, or boxes not
+// twice as long; then by steps 12 a box test beyond the number of nodes (at: the node), 9 a bad node (the node), 10 an index entry of n or more
+// (its place), 5 a triangle that isn't admitted (its number), 11 more than 64 pending (the node). It writes nothing.
 pub fn walk(triangles: &[f64], index: &[u32], boxes: &[f64], links: &[u32], ray: Ray) -> Answer
     ensures { λ r. ⌜ told r ≡ walk (lent (now (triangles .entry)) (now (index .entry)) (now (boxes .entry)) (now (links .entry))) ray ⌝ }
 {
