@@ -1,5 +1,4 @@
 // What is tested before a division, and what is written before it and after one that is too deep.
-use triangle::Triangle;
 ghost use mathlib.Core.Path.{_≡_};
 ghost use Prim.Native.Nat.{_≤_};
 ghost use lib.ListN.{length, replicate};
@@ -31,7 +30,7 @@ pub fn first_refused(triangles: &[f64], n: usize) -> Found
 {
     let mut i: usize = 0;
     while i < n {
-        if Triangle::read(triangles, i).admitted() {
+        if triangle::admitted_at(triangles, i) {
             i += 1;
         } else {
             return Found::At(i);

@@ -1,8 +1,7 @@
 -- Those from i on give the lowest of all. Assumes nothing.
-use mathlib.Core.Path.{_≡_, sym, _∙_, ap}
+use mathlib.Core.Path.{_≡_, sym, _∙_}
 use Prim.Native.Nat.{_-_}
 use native.Mathlib.Omega.{arith}
-use Rattle.triangle.specs.Mesh.{admittedTriangle}
 use Rattle.builder.specs.Build.{firstRefused}
 use Rattle.builder.proofs.Fills.{bad-end, bad-go, bad-start, bad-stop}
 use borrow.Author.Needs.{needs}
@@ -18,29 +17,26 @@ abbrev μ-loop : tie.MeasureT-loop
 loop-holds : tie.Need-loop-holds Inv-loop μ-loop
 loop-holds c = bad-start (c .before .args .triangles .now) (c .before .args .n)
 
-read-requires : tie.Need-read-requires Inv-loop μ-loop
-read-requires c κs = search needs
-
-admitted-requires : tie.Need-admitted-requires Inv-loop μ-loop
-admitted-requires c κs = search needs
+admitted-at-requires : tie.Need-admitted-at-requires Inv-loop μ-loop
+admitted-at-requires c κs = search needs
 
 add-i : tie.Need-add-i Inv-loop μ-loop
-add-i c = omega (arith, c .before .before .before .loop-test .taken)
+add-i c = omega (arith, c .before .before .loop-test .taken)
 
 loop-less : tie.Need-loop-less Inv-loop μ-loop
-loop-less c = omega (arith, c .before .before .before .loop-test .taken)
+loop-less c = omega (arith, c .before .before .loop-test .taken)
 
 loop-again : tie.Need-loop-again Inv-loop μ-loop
 loop-again c =
-    let a = c .before .before .before .before .before .before .args in
-    let l = c .before .before .before .before .loop in
-    sym (bad-go (a .triangles .now) (l .i) (a .n) (c .before .before .before .loop-test .taken) (ap admittedTriangle (sym (c .before .before .read .ensures)) ∙ sym (c .before .admitted .ensures) ∙ c .if1 .taken)) ∙ l .inv
+    let a = c .before .before .before .before .before .args in
+    let l = c .before .before .before .loop in
+    sym (bad-go (a .triangles .now) (l .i) (a .n) (c .before .before .loop-test .taken) (sym (c .before .admitted-at .ensures) ∙ c .if1 .taken)) ∙ l .inv
 
 returns : tie.Need-returns Inv-loop μ-loop
 returns c =
-    let a = c .before .before .before .before .before .before .args in
-    let l = c .before .before .before .before .loop in
-    sym (bad-stop (a .triangles .now) (l .i) (a .n) (c .before .before .before .loop-test .taken) (ap admittedTriangle (sym (c .before .before .read .ensures)) ∙ sym (c .before .admitted .ensures) ∙ c .if1 .left)) ∙ l .inv
+    let a = c .before .before .before .before .before .args in
+    let l = c .before .before .before .loop in
+    sym (bad-stop (a .triangles .now) (l .i) (a .n) (c .before .before .loop-test .taken) (sym (c .before .admitted-at .ensures) ∙ c .if1 .left)) ∙ l .inv
 
 returns-2 : tie.Need-returns-2 Inv-loop μ-loop
 returns-2 c =
@@ -55,8 +51,7 @@ first-refused-spec =
     Inv-loop
     μ-loop
     loop-holds
-    read-requires
-    admitted-requires
+    admitted-at-requires
     add-i
     loop-less
     loop-again
