@@ -9,6 +9,7 @@ use lib.Ieee.Fits.{and-l, and-r, and-i}
 use lib.Ieee.Scale.{finite}
 use Rattle.order.specs.Number.{real, two-to-40, infinity}
 use Rattle.order.specs.Pick.{magnitude, lesser, greater}
+use Rattle.order.proofs.Cases.{or-l}
 use Rattle.order.proofs.Numbers.{infinity-is}
 use Rattle.order.proofs.Order.{finite-real, le-refl, le-trans}
 use Rattle.order.proofs.Bounds.{two-to-40-finite}
@@ -16,7 +17,7 @@ use Rattle.order.proofs.Pick.{lesser-left, lesser-right, greater-left, greater-
 use Rattle.aabb.specs.declared.vector.Vec3.{Vec3}
 use Rattle.aabb.specs.declared.bounds.Aabb.{Aabb}
 use Rattle.aabb.specs.Vector.{vec, along, all, within, allWithin, allAtMost, least, greatest}
-use Rattle.aabb.specs.Bounds.{box, emptyBox, grown, union, ofThree, bounded, contains, holds}
+use Rattle.aabb.specs.Bounds.{box, emptyBox, grown, union, ofThree, bounded, isEmpty, usable, contains, holds}
 use Rattle.aabb.proofs.Axis.{all-along, all-from, within-along, at-most-along, at-most-from, along-least, along-greatest}
 
 -- ---- vectors
@@ -106,6 +107,10 @@ parts-bounded b p =
 
 pub bounded-numbers : (b : Aabb) → T (bounded b) → Numbers b
 bounded-numbers b h = let p = bounded-parts b h in record { low = within-real (b .min) (p .low); high = within-real (b .max) (p .high) }
+
+pub bounded-usable : (b : Aabb) → T (bounded b) → T (usable b)
+unfolding usable
+bounded-usable b h = or-l (bounded b) (isEmpty b) h
 
 -- ---- both operations keep a box bounded
 least-within : (a b : Vec3) → T (allWithin two-to-40 a) → T (allWithin two-to-40 b) → T (allWithin two-to-40 (least a b))

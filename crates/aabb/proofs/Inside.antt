@@ -2,7 +2,7 @@
 -- Assumes nothing.
 use mathlib.Core.Path.{_≡_, refl}
 use mathlib.Core.Logic.{_⊎_, inl, inr}
-use mathlib.Core.Bool.{Bool, true, false, not, _&&_, _||_, cond}
+use mathlib.Core.Bool.{Bool, true, false, not, _||_, cond, or-false}
 use Prim.Native.Nat.{ℕ, zero, suc}
 use lib.IntN.{pos}
 use lib.Dec.{T}
@@ -11,6 +11,7 @@ use lib.Ieee.Fits.{and-l, and-r}
 use lib.Ieee.Scale.{finite}
 use Rattle.order.specs.Number.{real, nought, one, two, two-to-40, trillionth, infinity}
 use Rattle.order.specs.Pick.{magnitude, lesser, greater}
+use Rattle.order.proofs.Cases.{not-l, not-r, not-i}
 use Rattle.order.proofs.Numbers.{nought-is, two-is, trillionth-is, infinity-is}
 use Rattle.order.proofs.Order.{gain, loss, finite-real, le→real-l, le→real-r, le→not-lt, not-lt→le, le-refl, le-trans}
 use Rattle.order.proofs.Monotone.{sub-mono, mul-mono, mul-anti, mul-real, side}
@@ -89,23 +90,7 @@ clipped-wider t0' t1' t0 t1 e' x' e x f s h k =
     let k' = lesser-mono x (second t0 t1) x' (second t0' t1') k s in
     gate (lt X' E') (lt X E) E' X' E X (apart E' X' E X h' k') h' k'
 
-not-l : (a b : Bool) → T (not (a || b)) → T (not a)
-not-l true b h = h
-not-l false b h = tt
-
-not-r : (a b : Bool) → T (not (a || b)) → T (not b)
-not-r true b h = absurd h
-not-r false b h = h
-
-not-i : (a b : Bool) → T (not a) → T (not b) → T (not (a || b))
-not-i true b h k = h
-not-i false b h k = k
-
 -- ---- of two numbers the exchange puts the lesser first and the greater second
-or-false : (t : Bool) → t || false ≡ t
-or-false true = refl
-or-false false = refl
-
 number-is : (x : Float) → T (real x) → isNan x ≡ false
 unfolding isNan
 number-is nan h = absurd h

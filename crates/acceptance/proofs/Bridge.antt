@@ -1,15 +1,13 @@
 -- The tree that a build's lists hold, as the walk's layer speaks of it: what the builder's layer shows of the lists is what the walk's layer asks. Assumes nothing.
-use mathlib.Core.Path.{_≡_, refl, sym, ap, _∙_}
-use mathlib.Core.Bool.{Bool, true, false, not, _||_}
+use mathlib.Core.Path.{_≡_, refl}
+use mathlib.Core.Bool.{false}
 use mathlib.Core.List.{List}
 use Prim.Native.Nat.{ℕ, _+_, _-_, _*_, _/_, _%_, _≤_, _<_, max}
 use native.Mathlib.Omega.{arith}
-use lib.Dec.{T, eqb, ltb}
 use lib.ListN.{length, getD}
 use lib.Ieee.{Float}
 use borrow.Author.Tests.{eq-eqb, ne-eqb, le-ltb}
-use Rattle.aabb.specs.declared.bounds.Aabb.{Aabb}
-use Rattle.aabb.specs.Bounds.{bounded, usable, contains}
+use Rattle.aabb.proofs.Holds.{bounded-usable}
 use Rattle.builder.specs.Tree.{Tree as Grown-tree, leaf as grown-leaf, fork as grown-fork, leaves as grown-leaves}
 use Rattle.builder.specs.Lists.{boxOf as grown-box, size as grown-size, depth as grown-depth, Holds as Grown-holds, Nested as Grown-nested, Runs as Grown-runs, Accepted as Grown-accepted}
 use Rattle.scene.specs.Lent.{Lent, lent, nodeAt, leftOf, rightOf}
@@ -52,14 +50,6 @@ holds-as mesh index boxes links i (grown-fork b u v) h = (
 )
 
 -- ---- its boxes are nested
-bounded-usable : (b : Aabb) → T (bounded b) → T (usable b)
-unfolding usable
-bounded-usable b h = go (bounded b) h
-  where
-    go : (t : Bool) → T t → T (t || Rattle.aabb.specs.Bounds.isEmpty b)
-    go true h = tt
-    go false h = absurd h
-
 nested-as : (t : Grown-tree) → Grown-nested t → Nested (asTree t)
 nested-as (grown-leaf b p c) h = h
 nested-as (grown-fork b u v) h = (

@@ -14,6 +14,7 @@ use Rattle.aabb.specs.Vector.{vec}
 use Rattle.triangle.specs.declared.Hit.{Hit}
 use Rattle.triangle.specs.declared.Found.{Found}
 use Rattle.triangle.specs.declared.Found.the-variants.{At, Nothing}
+use Rattle.triangle.proofs.Steps.{hit}
 use Rattle.builder.specs.declared.Built.{Built}
 use Rattle.builder.specs.declared.Built.the-variants.{Tree, Refused}
 use Rattle.builder.specs.declared.split.SplitDecision.{SplitDecision}
@@ -115,9 +116,6 @@ vector-is a b h = congruent3 vec (float-is (a .x) (b .x) (search (and-l, and-r))
 
 abbrev sameHit : Hit → Hit → Bool
 sameHit a b = sameFloat (a .t) (b .t) && (sameVector (a .point) (b .point) && (sameVector (a .normal) (b .normal) && (Bool·beq (a .front) (b .front) && eqb (a .triangle) (b .triangle))))
-
-abbrev hit : Float → Vec3 → Vec3 → Bool → ℕ → Hit
-hit t p n f k = record { t = t; point = p; normal = n; front = f; triangle = k }
 
 hit-is : (a b : Hit) → T (sameHit a b) → a ≡ b
 hit-is a b h =

@@ -1,6 +1,7 @@
 -- Laws for the loops that check and fill, and for the room. Assumes nothing.
 use mathlib.Core.Path.{_≡_, refl, sym, _∙_, ap}
 use Prim.Native.Nat.{ℕ, zero, suc, _+_, _*_, _-_, _≤_, _<_}
+use native.Mathlib.Nat.{sub-zero, sub-eq-zero-of-le}
 use native.Mathlib.Omega.{arith}
 use native.Mathlib.Numerals.{add-one}
 use mathlib.Core.Bool.{true, false}
@@ -37,7 +38,8 @@ bad-false : (m : List Float) (i k : ℕ) → admittedTriangle (triangleAt m i) �
 unfolding firstRefused
 bad-false m i k p = rw (p, firstRefused)
 
-one-more : (i n : ℕ) → i < n → n - i ≡ suc (n - (i + 1))
+-- ---- one turn of a loop from i to n
+pub one-more : (i n : ℕ) → i < n → n - i ≡ suc (n - (i + 1))
 one-more i n h = omega arith
 
 pub bad-go : (m : List Float) (i n : ℕ) → i < n → admittedTriangle (triangleAt m i) ≡ true → firstRefused m i (n - i) ≡ firstRefused m (i + 1) (n - (i + 1))
@@ -48,16 +50,10 @@ bad-stop m i n h p = ap (λ (k : ℕ). firstRefused m i k) (one-more i n h) ∙ 
 
 pub bad-end : (m : List Float) (i n : ℕ) → n ≤ i → firstRefused m i (n - i) ≡ Nothing
 unfolding firstRefused
-bad-end m i n h = ap (λ (k : ℕ). firstRefused m i k) (none i n h)
-  where
-    none : (i n : ℕ) → n ≤ i → n - i ≡ 0
-    none i n h = omega arith
+bad-end m i n h = ap (λ (k : ℕ). firstRefused m i k) (sub-eq-zero-of-le h)
 
 pub bad-start : (m : List Float) (n : ℕ) → firstRefused m 0 (n - 0) ≡ firstRefused m 0 n
-bad-start m n = ap (λ (k : ℕ). firstRefused m 0 k) (less n)
-  where
-    less : (n : ℕ) → n - 0 ≡ n
-    less n = omega arith
+bad-start m n = ap (λ (k : ℕ). firstRefused m 0 k) (sub-zero n)
 
 -- ---- the numbers in order
 pub up-more : (xs : List ℕ) (i : ℕ) → i < length xs → take i xs ≡ upTo i → take (i + 1) (set xs i i) ≡ upTo (i + 1)

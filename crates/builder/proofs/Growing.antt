@@ -1,6 +1,7 @@
 -- Laws of the split of a range and of its tree. Assumes nothing.
 use mathlib.Core.Path.{_≡_, refl, sym, _∙_, ap, subst, subst⁻¹}
 use Prim.Native.Nat.{ℕ, zero, suc, _+_, _*_, _-_, _/_, _≤_, _<_}
+use native.Mathlib.Nat.{add-zero, sub-zero}
 use native.Mathlib.Omega.{arith}
 use mathlib.Core.Bool.{Bool, true, false, cond, _||_}
 use mathlib.Core.Option.{Option, none, some}
@@ -11,6 +12,7 @@ use lib.Dec.{eqb}
 use lib.Ieee.{Float}
 use borrow.Author.Tests.{eq-eqb, ne-eqb, eqb-false}
 use borrow.Rule.Slice.PartMut.{midOf, postOf, putMid}
+use Rattle.order.proofs.Cases.{neither}
 use Rattle.aabb.specs.declared.bounds.Aabb.{Aabb}
 use Rattle.triangle.specs.Mesh.{centroidAt}
 use Rattle.builder.specs.declared.division.Made.{Made}
@@ -71,18 +73,10 @@ split-length m a p ids =
     settled-by (λ (s : Parted). length (s .ids) ≡ length ids) m a (parted m a p ids)
     (ordered-length m a (parted m a p ids .ids) ∙ parted-length m a p ids) (λ _. parted-length m a p ids)
 
-or-left : (t u : Bool) → (t || u) ≡ false → t ≡ false
-or-left true u p = p
-or-left false u p = refl
-
-or-right : (t u : Bool) → (t || u) ≡ false → u ≡ false
-or-right true u p = absurd (let z : _≡_ {A = ℕ} 0 1 = cc in omega arith)
-or-right false u p = p
-
 between : (l n : ℕ) → l ≤ n → (eqb l 0 || eqb l n) ≡ false → (0 < l) × (l < n)
 between l n h t =
-    let p : (l ≡ 0 → ⊥) = eqb-false l 0 (or-left (eqb l 0) (eqb l n) t) in
-    let q : (l ≡ n → ⊥) = eqb-false l n (or-right (eqb l 0) (eqb l n) t) in
+    let p : (l ≡ 0 → ⊥) = eqb-false l 0 (neither (eqb l 0) (eqb l n) t .0) in
+    let q : (l ≡ n → ⊥) = eqb-false l n (neither (eqb l 0) (eqb l n) t .1) in
     (omega arith, omega arith)
 
 pub split-between : (m : List Float) (a : ℕ) (p : Float) (ids : List ℕ) → 1 < length ids → (0 < separated m a p ids .at) × (separated m a p ids .at < length ids)
@@ -172,14 +166,11 @@ mid m ids b q w a p xs k ew es ek =
 
 -- ---- a list whose front was lent and came back as l: what is lent next, and what it is when that has come back as r
 module _ (xs l : List ℕ) (k : ℕ) (h : k ≤ length xs) (e : length l ≡ length (take (k - 0) xs)) where
-  less : (n : ℕ) → n - 0 ≡ n
-  less n = omega arith
-
   front : take (k - 0) xs ≡ take k xs
-  front = ap (λ (n : ℕ). take n xs) (less k)
+  front = ap (λ (n : ℕ). take n xs) (sub-zero k)
 
   back : drop (k - 0) xs ≡ drop k xs
-  back = ap (λ (n : ℕ). drop n xs) (less k)
+  back = ap (λ (n : ℕ). drop n xs) (sub-zero k)
 
   pub front-length : length l ≡ k
   front-length = e ∙ ap length front ∙ length-take-le k xs h
@@ -203,10 +194,10 @@ module _ (xs l : List ℕ) (k : ℕ) (h : k ≤ length xs) (e : length l ≡ len
       ∙ ap (λ (z : List ℕ). l ++ z) (append-nil r)
 
 -- ---- two halves laid out make the fork laid out
-never : (n : ℕ) → Next n ≡ Deep → ⊥
+pub never : (n : ℕ) → Next n ≡ Deep → ⊥
 never n e = let z : _≡_ {A = ℕ} 0 1 = cc in omega arith
 
-next-same : (n k : ℕ) → Next n ≡ Next k → n ≡ k
+pub next-same : (n k : ℕ) → Next n ≡ Next k → n ≡ k
 next-same n k e = cc
 
 fork-laid : (b : Aabb) (l r : Grown) (node next then : ℕ) (bs bs₂ bs₃ : List Float) (ls ls₂ ls₃ : List ℕ) (a : Made) (i₁ i₂ : List ℕ)
@@ -253,14 +244,11 @@ module _ (m : List Float) (d f : ℕ) (ids : List ℕ) (b : Aabb) (w : SplitDeci
   tip-laid : (ls₁ : List ℕ) → ls₁ ≡ linkPut ls node f (length ids) 1 → Laid (grownAs (leaf (nodeBox m ids) f (length ids)) ids) node next bs ls (Next next) ids bs₁ ls₁
   unfolding boxesOf linksOf
   tip-laid ls₁ eL = record {
-    answer = ap Next (plus-none next);
+    answer = ap Next (sym (add-zero next));
     index-is = refl;
     boxes-are = eB ∙ ap (λ (z : Aabb). boxPut bs node z) eb;
     links-are = eL;
   }
-    where
-      plus-none : (n : ℕ) → n ≡ n + 0
-      plus-none n = omega arith
 
   pub divided-leaf : (ls₁ : List ℕ) → w ≡ MakeLeaf → ls₁ ≡ linkPut ls node f (length ids) 1 → Divided (grow m d f ids) node next bs ls (Next next) ids bs₁ ls₁
   divided-leaf ls₁ e eL =
@@ -286,10 +274,7 @@ module _ (m : List Float) (d f : ℕ) (ids : List ℕ) (b : Aabb) (w : SplitDeci
     first-half =
         subst (λ (z : List Float). Divided (grow m (d - 1) f (take k xs)) next (next + 2) z (linkPut ls node next 0 0) one i₁ bs₂ ls₂) (eB ∙ ap (λ (z : Aabb). boxPut bs node z) eb)
         (subst (λ (z : List ℕ). Divided (grow m (d - 1) f (take k xs)) next (next + 2) bs₁ z one i₁ bs₂ ls₂) eL
-        (subst (λ (n : ℕ). Divided (grow m (d - 1) f (take n xs)) next (next + 2) bs₁ ls₁ one i₁ bs₂ ls₂) (less k) D₁))
-      where
-        less : (n : ℕ) → n - 0 ≡ n
-        less n = omega arith
+        (subst (λ (n : ℕ). Divided (grow m (d - 1) f (take n xs)) next (next + 2) bs₁ ls₁ one i₁ bs₂ ls₂) (sub-zero k) D₁))
 
     pub divided-left : (i₂ : List ℕ) (bs₃ : List Float) (ls₃ : List ℕ) → one ≡ Deep → Divided (grow m d f ids) node next bs ls Deep i₂ bs₃ ls₃
     divided-left i₂ bs₃ ls₃ e =

@@ -7,14 +7,15 @@ use mathlib.Core.Logic.{inl, inr}
 use mathlib.Core.Bool.{Bool, true, false, cond}
 use lib.Dec.{T}
 use lib.Ieee.{Float, nan, inf, fin, up, down, round, sum, add, le, ofInt, binary64}
+use lib.Ieee.Bits.{is-true}
 use lib.Ieee.Exact.{HasValue}
 use lib.Ieee.Back.{round-whole}
 use lib.Ieee.Fits.{down-pos}
 use lib.Ieee.Scale.{round-same}
 use lib.Ieee.Order.{round-mono}
+use Rattle.order.proofs.Cases.{low-or-high, true-is}
 use Rattle.order.proofs.Order.{clash, le-trans}
 use Rattle.builder.specs.Bins.{binOf, whole}
-use Rattle.builder.proofs.Placing.{low-or-high}
 
 -- ---- whole numbers as floats
 whole-up : (a b : ℕ) → a ≤ b → T (le (whole a) (whole b))
@@ -45,14 +46,6 @@ pub boundary : (low width : Float) (a b : ℕ) → low ≡ whole a → width ≡
 boundary low width a b p q h = rw (p, q) (whole-sum a b (omega arith) (omega arith))
 
 -- ---- the bin of x among the first n + 1
-true-is : (b : Bool) → b ≡ true → T b
-true-is true p = tt
-true-is false p = clash false p refl
-
-is-true : (b : Bool) → T b → b ≡ true
-is-true true t = refl
-is-true false t = absurd t
-
 pub bin-most : (n : ℕ) (x : Float) → binOf n x ≤ n
 unfolding binOf
 bin-most zero x = omega arith

@@ -2,23 +2,18 @@
 use mathlib.Core.Path.{_≡_, sym, _∙_, ap, subst⁻¹}
 use Prim.Native.Nat.{ℕ, zero, suc, _+_, _*_, _-_, _≤_, _<_}
 use native.Mathlib.Omega.{arith}
-use native.Mathlib.Decide.{ℕ-discrete, decLt}
+use native.Mathlib.Nat.{sub-zero}
 use mathlib.Core.Logic.{_⊎_, inl, inr, ⊎-elim}
 use mathlib.Core.Bool.{Bool, true, false}
 use mathlib.Core.List.{List, _++_}
 use lib.ListN.{length, getD, set, take, drop, length-set, length-drop, length-append, List·getD-append, take-append-drop}
 use lib.Seq.{getD-set-same, getD-set-other, getD-take, getD-drop, length-take-le, getD-append-add}
+use Rattle.order.proofs.Cases.{low-or-high, same?}
 use Rattle.builder.specs.Heap.{Greater, HeapFrom, Perm, occ, parent}
 use Rattle.builder.specs.Partition.{swapped}
 use Rattle.builder.proofs.Linear.{Linear}
 use Rattle.builder.proofs.Parting.{length-swap}
 use Rattle.builder.proofs.Perm.{each-perm, not-self, occ-append, perm-swap}
-
-same? : (a b : ℕ) → (a ≡ b) ⊎ (a ≡ b → ⊥)
-same? a b = elim (ℕ-discrete a b) [ yes p ↦ inl p | no n ↦ inr n ]
-
-low-or-high : (a b : ℕ) → (a < b) ⊎ (b ≤ a)
-low-or-high a b = elim (decLt a b) [ yes p ↦ inl p | no n ↦ inr (omega arith) ]
 
 -- ---- an exchange, place by place
 module _ (xs : List ℕ) (a b : ℕ) (ha : a < length xs) (hb : b < length xs) (ne : a ≡ b → ⊥) where
@@ -194,12 +189,9 @@ module _ (less : ℕ → ℕ → Bool) (lin : Linear less) where
     unfolding ys
     ys-length = length-swap xs 0 (end - 1)
 
-    less-zero : (n : ℕ) → n - 0 ≡ n
-    less-zero n = omega arith
-
     part-length : length (take (end - 1 - 0) (swapped xs 0 (end - 1))) ≡ end - 1
     unfolding ys
-    part-length = ap (λ (n : ℕ). length (take n (swapped xs 0 (end - 1)))) (less-zero (end - 1)) ∙ length-take-le (end - 1) (swapped xs 0 (end - 1)) (omega (arith, ys-length))
+    part-length = ap (λ (n : ℕ). length (take n (swapped xs 0 (end - 1)))) (sub-zero (end - 1)) ∙ length-take-le (end - 1) (swapped xs 0 (end - 1)) (omega (arith, ys-length))
 
     part-at : (j : ℕ) → j < end - 1 → getD (take (end - 1 - 0) (swapped xs 0 (end - 1))) j 0 ≡ getD ys j 0
     unfolding ys

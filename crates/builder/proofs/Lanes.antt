@@ -2,7 +2,7 @@
 use mathlib.Core.Path.{_≡_, refl, sym, _∙_, ap, subst⁻¹}
 use Prim.Native.Nat.{ℕ, zero, suc, _+_, _*_, _≤_, _<_}
 use native.Mathlib.Omega.{arith}
-use native.Mathlib.Decide.{ℕ-discrete}
+use native.Mathlib.Nat.{add-zero}
 use mathlib.Core.Logic.{_⊎_, inl, inr, ⊎-elim}
 use mathlib.Core.Bool.{cond}
 use mathlib.Core.List.{List}
@@ -12,6 +12,7 @@ use lib.Seq.{getD-set-same, getD-set-other}
 use lib.Ieee.{Float, nan, lt, neg}
 use Rattle.order.specs.Number.{real, infinity}
 use Rattle.order.specs.Pick.{lesser, greater}
+use Rattle.order.proofs.Cases.{low-or-high, same?}
 use Rattle.order.proofs.Numbers.{infinity-is}
 use Rattle.order.proofs.Pick.{lower-is, higher-is, lower-real, higher-real}
 use Rattle.aabb.specs.Vector.{vectorAt, least, greatest}
@@ -21,29 +22,16 @@ use Rattle.builder.specs.declared.bins.Bin.{Bin}
 use Rattle.builder.specs.Bins.{blank, noBin, withBox}
 use Rattle.builder.specs.Layout.{boxPut}
 use Rattle.builder.specs.Lanes.{AllClear, binAt, lane, Lanes, Vacant}
-use Rattle.builder.proofs.Placing.{box-here, box-numbers, box-other, box-length, low-or-high}
-
-pub same? : (a b : ℕ) → (a ≡ b) ⊎ (a ≡ b → ⊥)
-same? a b = elim (ℕ-discrete a b) [ yes p ↦ inl p | no n ↦ inr n ]
-
--- ---- places, as a lane and a box have them
-none : (n : ℕ) → n ≡ n + 0
-none n = omega arith
+use Rattle.builder.proofs.Placing.{box-here, box-numbers, box-other, box-length, second, third}
 
 up : (n j : ℕ) → suc n + j ≡ n + suc j
 up n j = omega arith
-
-second : (n : ℕ) → n * 6 + 3 + 1 ≡ n * 6 + 4
-second n = omega arith
-
-third : (n : ℕ) → n * 6 + 3 + 2 ≡ n * 6 + 5
-third n = omega arith
 
 -- ---- a lane, by its bins
 pub lane-get : (bs : List Float) (cs : List ℕ) (from n j : ℕ) → j < n → getD (lane bs cs from n) j blank ≡ binAt bs cs (from + j)
 unfolding lane
 lane-get bs cs from zero j h = absurd (omega arith)
-lane-get bs cs from (suc n) zero h = ap (binAt bs cs) (none from)
+lane-get bs cs from (suc n) zero h = ap (binAt bs cs) (sym (add-zero from))
 lane-get bs cs from (suc n) (suc j) h = lane-get bs cs (suc from) n j (omega arith) ∙ ap (binAt bs cs) (up from j)
 
 lane-same : (bs bs′ : List Float) (cs cs′ : List ℕ) (from n : ℕ) → ((k : ℕ) → from ≤ k → k < from + n → binAt bs′ cs′ k ≡ binAt bs cs k) → lane bs′ cs′ from n ≡ lane bs cs from n
@@ -56,7 +44,7 @@ lane-set : (bs bs′ : List Float) (cs cs′ : List ℕ) (from n j : ℕ) (w : B
 unfolding lane
 lane-set bs bs′ cs cs′ from zero j w h e f = absurd (omega arith)
 lane-set bs bs′ cs cs′ from (suc n) zero w h e f =
-    rw (ap (binAt bs′ cs′) (none from) ∙ e, lane-same bs bs′ cs cs′ (suc from) n (λ k p q. f k (λ s. omega arith)))
+    rw (ap (binAt bs′ cs′) (sym (add-zero from)) ∙ e, lane-same bs bs′ cs cs′ (suc from) n (λ k p q. f k (λ s. omega arith)))
 lane-set bs bs′ cs cs′ from (suc n) (suc j) w h e f =
     rw (f from (λ s. omega arith), lane-set bs bs′ cs cs′ (suc from) n j w (omega arith) (ap (binAt bs′ cs′) (up from j) ∙ e) (λ k s. f k (λ z. s (omega arith))))
 

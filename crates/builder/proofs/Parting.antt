@@ -1,6 +1,7 @@
 -- Laws of the partition's loop: its start, its two turns, its end, and what it keeps. Assumes nothing.
 use mathlib.Core.Path.{_≡_, refl, sym, _∙_, ap}
 use Prim.Native.Nat.{ℕ, zero, suc, _+_, _-_, _≤_, _<_}
+use native.Mathlib.Nat.{sub-zero, sub-eq-zero-of-le}
 use native.Mathlib.Omega.{arith}
 use native.Mathlib.Numerals.{add-one}
 use mathlib.Core.Bool.{Bool, true, false}
@@ -9,8 +10,8 @@ use lib.ListN.{length, getD, length-set}
 use lib.Ieee.{Float, lt}
 use Rattle.triangle.specs.Mesh.{centroidAt}
 use Rattle.builder.specs.Partition.{Parted, lower, moves, parted, parts, swapped}
+use Rattle.builder.proofs.Fills.{one-more}
 
--- ---- the box
 -- ---- an exchange
 pub length-swap : (xs : List ℕ) (a b : ℕ) → length (swapped xs a b) ≡ length xs
 length-swap xs a b = simp length-set
@@ -34,10 +35,7 @@ moves-false keep k l xs p = rw (p, moves)
 
 pub moves-up : (keep : ℕ → Bool) (l r : ℕ) (xs : List ℕ) → l < r → keep (getD xs l 0) ≡ true → moves keep (r - l) l xs ≡ moves keep (r - (l + 1)) (l + 1) xs
 moves-up keep l r xs h p =
-    ap (λ (n : ℕ). moves keep n l xs) (one l r h) ∙ moves-true keep (r - (l + 1)) l xs p ∙ ap (λ (n : ℕ). moves keep (r - (l + 1)) n xs) (sym (add-one l))
-  where
-    one : (l r : ℕ) → l < r → r - l ≡ suc (r - (l + 1))
-    one l r h = omega arith
+    ap (λ (n : ℕ). moves keep n l xs) (one-more l r h) ∙ moves-true keep (r - (l + 1)) l xs p ∙ ap (λ (n : ℕ). moves keep (r - (l + 1)) n xs) (sym (add-one l))
 
 pub moves-down : (keep : ℕ → Bool) (l r : ℕ) (xs : List ℕ) → l < r → keep (getD xs l 0) ≡ false → moves keep (r - l) l xs ≡ moves keep ((r - 1) - l) l (swapped xs l (r - 1))
 moves-down keep l r xs h p =
@@ -51,10 +49,7 @@ moves-down keep l r xs h p =
 
 pub moves-end : (keep : ℕ → Bool) (l r : ℕ) (xs : List ℕ) → r ≤ l → moves keep (r - l) l xs ≡ parts xs l
 unfolding moves
-moves-end keep l r xs h = ap (λ (n : ℕ). moves keep n l xs) (none l r h)
-  where
-    none : (l r : ℕ) → r ≤ l → r - l ≡ 0
-    none l r h = omega arith
+moves-end keep l r xs h = ap (λ (n : ℕ). moves keep n l xs) (sub-eq-zero-of-le h)
 
 -- what holds of the numbers of a list and of an exchange of two of them
 pub moves-length : (keep : ℕ → Bool) (k l : ℕ) (xs : List ℕ) → length (moves keep k l xs .ids) ≡ length xs
@@ -86,7 +81,4 @@ lower-is m a p i k r t e f g = cc
 
 pub moves-start : (m : List Float) (a : ℕ) (p : Float) (xs : List ℕ) → moves (lower m a p) (length xs - 0) 0 xs ≡ parted m a p xs
 unfolding parted
-moves-start m a p xs = ap (λ (n : ℕ). moves (lower m a p) n 0 xs) (less (length xs))
-  where
-    less : (n : ℕ) → n - 0 ≡ n
-    less n = omega arith
+moves-start m a p xs = ap (λ (n : ℕ). moves (lower m a p) n 0 xs) (sub-zero (length xs))

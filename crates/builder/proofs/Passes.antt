@@ -1,6 +1,7 @@
 -- Laws of the pass over a range that grows its two boxes: its start, its turn and its end; and of a triangle known by its vertices. Assumes nothing.
 use mathlib.Core.Path.{_≡_, refl, sym, _∙_, ap}
 use Prim.Native.Nat.{ℕ, zero, suc, _+_, _*_, _≤_, _<_}
+use native.Mathlib.Nat.{add-zero}
 use native.Mathlib.Omega.{arith}
 use native.Mathlib.Numerals.{add-one}
 use mathlib.Core.List.{List, [], _∷_}
@@ -63,10 +64,7 @@ bounds-by m i p q r b ep eq er e = rw (ep, eq, er) at e
 -- ---- a centroid on an axis, by three numbers of the mesh
 number-on : (m : List Float) (axis at : ℕ) → axis < 3 → numberAt m (at + axis) ≡ along axis (vectorAt m at)
 unfolding along vectorAt
-number-on m zero at h = ap (numberAt m) (none at)
-  where
-    none : (n : ℕ) → n + 0 ≡ n
-    none n = omega arith
+number-on m zero at h = ap (numberAt m) (add-zero at)
 number-on m (suc zero) at h = refl
 number-on m (suc (suc zero)) at h = refl
 number-on m (suc (suc (suc k))) at h = absurd (omega arith)

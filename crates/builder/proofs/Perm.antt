@@ -2,7 +2,6 @@
 use mathlib.Core.Path.{_≡_, refl, sym, _∙_, ap, subst⁻¹}
 use Prim.Native.Nat.{ℕ, zero, suc, _+_, _<_}
 use native.Mathlib.Omega.{arith}
-use native.Mathlib.Decide.{ℕ-discrete}
 use mathlib.Core.Logic.{_⊎_, inl, inr, ⊎-elim}
 use mathlib.Core.Bool.{Bool, true, false, cond}
 use mathlib.Core.List.{List, [], _∷_, _++_}
@@ -10,6 +9,7 @@ use lib.ListN.{length, getD, set, length-set}
 use lib.Seq.{getD-set-same, getD-set-other}
 use lib.Dec.{eqb}
 use borrow.Author.Tests.{eq-eqb, eqb-true}
+use Rattle.order.proofs.Cases.{same?}
 use Rattle.builder.specs.Fallback.{insert, sorted}
 use Rattle.builder.specs.Heap.{Perm, hit, occ}
 use Rattle.builder.specs.Partition.{swapped}
@@ -34,11 +34,8 @@ occ-set v (x ∷ xs) zero a h = omega arith
 occ-set v (x ∷ xs) (suc i) a h = omega (arith, occ-set v xs i a (omega arith))
 
 after-set : (xs : List ℕ) (a b : ℕ) → a < length xs → getD (set xs a (getD xs b 0)) b 0 ≡ getD xs b 0
-after-set xs a b h = go (dec b a)
+after-set xs a b h = go (same? b a)
   where
-    dec : (b a : ℕ) → (b ≡ a) ⊎ (b ≡ a → ⊥)
-    dec b a = elim (ℕ-discrete b a) [ yes p ↦ inl p | no n ↦ inr n ]
-
     go : (b ≡ a) ⊎ (b ≡ a → ⊥) → getD (set xs a (getD xs b 0)) b 0 ≡ getD xs b 0
     go (inl p) = ap (λ (k : ℕ). getD (set xs a (getD xs b 0)) k 0) p ∙ getD-set-same xs a (getD xs b 0) 0 h
     go (inr n) = getD-set-other xs a b (getD xs b 0) 0 n

@@ -2,12 +2,12 @@
 use mathlib.Core.Path.{_≡_, refl, _∙_, ap, subst⁻¹}
 use Prim.Native.Nat.{ℕ, _+_, _*_, _/_, _≤_, _<_}
 use native.Mathlib.Omega.{arith}
-use native.Mathlib.Decide.{decLt}
 use mathlib.Core.Logic.{_⊎_, inl, inr, ⊎-elim}
 use mathlib.Core.List.{List}
 use lib.ListN.{length, getD, set, length-set}
 use lib.Seq.{getD-set-same, getD-set-other}
 use lib.Ieee.{Float, nan}
+use Rattle.order.proofs.Cases.{low-or-high}
 use Rattle.aabb.specs.Bounds.{boxAt}
 use Rattle.aabb.specs.Vector.{vectorAt}
 use Rattle.aabb.specs.declared.bounds.Aabb.{Aabb}
@@ -15,8 +15,12 @@ use Rattle.builder.specs.Layout.{boxPut, boxesOf, linkPut, linksOf}
 use Rattle.builder.specs.Lists.{ChildOf, Holds, OnlyChild, Runs, countAt, firstAt, kindAt, size}
 use Rattle.builder.specs.Tree.{Tree, below, fork, leaf}
 
-pub low-or-high : (a b : ℕ) → (a < b) ⊎ (b ≤ a)
-low-or-high a b = elim (decLt a b) [ yes p ↦ inl p | no n ↦ inr (omega arith) ]
+-- ---- the second and the third number of a box's upper corner
+pub second : (n : ℕ) → n * 6 + 3 + 1 ≡ n * 6 + 4
+second n = omega arith
+
+pub third : (n : ℕ) → n * 6 + 3 + 2 ≡ n * 6 + 5
+third n = omega arith
 
 -- ---- a node, written and read
 pub record NodeIs (bs : List Float) (ls : List ℕ) (i : ℕ) (b : Aabb) (f c k : ℕ) : Type 0 where
@@ -118,17 +122,11 @@ module _ (bs : List Float) (n : ℕ) (b : Aabb) where
     unfolding boxPut
     at-4 =
         getD-set-other s5 (n * 6 + 5) (n * 6 + 3 + 1) (b .max .z) nan (λ e. omega arith)
-        ∙ ap (λ (k : ℕ). getD (set s4 (n * 6 + 4) (b .max .y)) k nan) (up n) ∙ getD-set-same s4 (n * 6 + 4) (b .max .y) nan (simp length-set (omega arith))
-      where
-        up : (n : ℕ) → n * 6 + 3 + 1 ≡ n * 6 + 4
-        up n = omega arith
+        ∙ ap (λ (k : ℕ). getD (set s4 (n * 6 + 4) (b .max .y)) k nan) (second n) ∙ getD-set-same s4 (n * 6 + 4) (b .max .y) nan (simp length-set (omega arith))
 
     at-5 : getD (boxPut bs n b) (n * 6 + 3 + 2) nan ≡ b .max .z
     unfolding boxPut
-    at-5 = ap (λ (k : ℕ). getD (set s5 (n * 6 + 5) (b .max .z)) k nan) (up n) ∙ getD-set-same s5 (n * 6 + 5) (b .max .z) nan (simp length-set (omega arith))
-      where
-        up : (n : ℕ) → n * 6 + 3 + 2 ≡ n * 6 + 5
-        up n = omega arith
+    at-5 = ap (λ (k : ℕ). getD (set s5 (n * 6 + 5) (b .max .z)) k nan) (third n) ∙ getD-set-same s5 (n * 6 + 5) (b .max .z) nan (simp length-set (omega arith))
 
     pub box-here : boxAt (boxPut bs n b) n ≡ b
     unfolding boxAt vectorAt

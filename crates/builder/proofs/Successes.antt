@@ -2,8 +2,8 @@
 use mathlib.Core.Path.{_≡_, refl, sym, _∙_, ap, subst, subst⁻¹}
 use Prim.Native.Nat.{ℕ, zero, suc, _+_, _*_, _/_, _%_, _≤_, _<_}
 use native.Mathlib.Omega.{arith}
-use native.Mathlib.Decide.{ℕ-discrete}
-use mathlib.Core.Logic.{_⊎_, inl, inr, ⊎-elim}
+use native.Mathlib.Nat.{zero-add}
+use mathlib.Core.Logic.{_⊎_, ⊎-elim}
 use mathlib.Core.Bool.{Bool, true, false, cond, not, _||_}
 use mathlib.Core.Option.{Option, none, some}
 use mathlib.Core.List.{List, [], _∷_, _++_}
@@ -11,7 +11,8 @@ use lib.ListN.{length, getD, take, drop, length-append}
 use lib.Seq.{getD-take, length-take-le, take-at, drop-at}
 use lib.Dec.{T, ltb, eqb}
 use lib.Ieee.{Float, nan, neg, le, eq, ofBits}
-use borrow.Author.Tests.{eqb-true, ltb-false}
+use borrow.Author.Tests.{eqb-true, ltb-false, not-false}
+use Rattle.order.proofs.Cases.{neither, same?}
 use Rattle.aabb.specs.Bounds.{bounded, emptyBox, isEmpty, usable}
 use Rattle.aabb.specs.Vector.{allAtMost, allEqual, allWithin, within}
 use Rattle.aabb.specs.declared.bounds.Aabb.{Aabb}
@@ -56,14 +57,6 @@ no-refusal k a n l e = absurd (let z : _≡_ {A = ℕ} 0 1 = cc in omega arith)
 peel : (t : Bool) (k a n l : ℕ) (xs : List ℕ) (bs : List Float) (ls : List ℕ) (rest o : Outcome) → cond t (outcome (Refused k a) xs bs ls) rest ≡ o → o .answer ≡ Grew n l → (t ≡ false) × (rest ≡ o)
 peel true k a n l xs bs ls rest o e g = no-refusal k a n l (ap (λ (w : Outcome). w .answer) e ∙ g)
 peel false k a n l xs bs ls rest o e g = (refl, e)
-
-not-false : (t : Bool) → not t ≡ false → t ≡ true
-not-false true e = refl
-not-false false e = absurd (let z : _≡_ {A = ℕ} 0 1 = cc in omega arith)
-
-neither : (t u : Bool) → (t || u) ≡ false → (t ≡ false) × (u ≡ false)
-neither true u e = absurd (let z : _≡_ {A = ℕ} 0 1 = cc in omega arith)
-neither false u e = (refl, e)
 
 module _ (mesh : List Float) (index : List ℕ) (boxes : List Float) (links : List ℕ) (nodes leaf-count : ℕ) (o : Outcome) (g : o .answer ≡ Grew nodes leaf-count) where
   pub record Passed : Type 0 where
@@ -154,9 +147,6 @@ all-fine m zero i j e p q = absurd (omega arith)
 all-fine m (suc k) i j e p q =
     let s = refused-go m i k (admittedTriangle (triangleAt m i)) refl e in
     ⊎-elim (λ h. subst⁻¹ (λ (z : ℕ). T (admittedTriangle (triangleAt m z))) h (s .0)) (λ h. all-fine m k (suc i) j (s .1) (omega arith) (omega arith)) (same? j i)
-  where
-    same? : (a b : ℕ) → (a ≡ b) ⊎ (a ≡ b → ⊥)
-    same? a b = elim (ℕ-discrete a b) [ yes p ↦ inl p | no n ↦ inr n ]
 
 empty-usable : (m : List Float) → T (usable (nodeBox m []))
 unfolding nodeBox boxFrom emptyBox usable bounded isEmpty allEqual allWithin within allAtMost eq le neg ofBits
@@ -231,10 +221,7 @@ module _ (mesh : List Float) (index : List ℕ) (boxes : List Float) (links : Li
   its-entries p h = up-below (length mesh / 12) (getD (s .grown .ids) p 0) (omega (arith, occ-at (s .grown .ids) p h, fine .same (getD (s .grown .ids) p 0)))
 
   its-runs : Runs 0 (length (s .grown .ids)) t
-  its-runs = subst⁻¹ (λ (k : ℕ). Runs 0 k t) (fine .len ∙ from-none (length ids)) (fine .runs)
-    where
-      from-none : (k : ℕ) → k ≡ 0 + k
-      from-none k = omega arith
+  its-runs = subst⁻¹ (λ (k : ℕ). Runs 0 k t) (fine .len ∙ sym (zero-add (length ids))) (fine .runs)
 
   its-lists : Accepted mesh (s .grown .ids) B′ L′ t
   its-lists =

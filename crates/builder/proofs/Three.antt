@@ -1,6 +1,7 @@
 -- A triangle put into the bins of three axes, each in its own lane: what is left of the range fills the bins so far to the whole. Assumes nothing.
 use mathlib.Core.Path.{_≡_, refl, sym, _∙_, ap}
 use Prim.Native.Nat.{ℕ, zero, suc, _+_, _*_, _≤_, _<_}
+use native.Mathlib.Nat.{zero-add}
 use native.Mathlib.Omega.{arith}
 use mathlib.Core.Logic.{inl, inr}
 use mathlib.Core.List.{List}
@@ -48,10 +49,7 @@ module _ (bs bs₁ : List Float) (cs cs₁ : List ℕ) (x n : ℕ) (b : Aabb) (h
       in-x : lane bs₃ cs₃ 0 16 ≡ set (lane bs cs 0 16) x (withBox (getD (lane bs cs 0 16) x blank) b)
       in-x =
           lane-apart bs₂ bs₃ cs₂ cs₃ (32 + z) b mz 0 16 (inr (omega arith)) ∙ lane-apart bs₁ bs₂ cs₁ cs₂ (16 + y) b my 0 16 (inr (omega arith))
-          ∙ lane-more bs bs₁ cs cs₁ x b mx (omega (arith, l .boxes-long)) (omega (arith, l .counts-long)) 0 16 x (omega arith) (none x)
-        where
-          none : (n : ℕ) → n ≡ 0 + n
-          none n = omega arith
+          ∙ lane-more bs bs₁ cs cs₁ x b mx (omega (arith, l .boxes-long)) (omega (arith, l .counts-long)) 0 16 x (omega arith) (sym (zero-add x))
 
       in-y : lane bs₃ cs₃ 16 16 ≡ set (lane bs cs 16 16) y (withBox (getD (lane bs cs 16 16) y blank) b)
       in-y =

@@ -2,15 +2,16 @@
 use mathlib.Core.Path.{_≡_, refl, sym, _∙_, ap, subst, subst⁻¹}
 use Prim.Native.Nat.{ℕ, zero, suc, _+_, _*_, _-_, _≤_, _<_}
 use native.Mathlib.Omega.{arith}
-use mathlib.Core.Bool.{Bool, true, false, _||_}
+use mathlib.Core.Bool.{Bool}
 use mathlib.Core.Option.{Option, none, some}
 use mathlib.Core.List.{List, _++_}
 use lib.ListN.{length, take, drop, length-drop, length-append, take-append-drop}
 use lib.Seq.{length-take-le}
 use lib.Dec.{T}
 use lib.Ieee.{Float}
-use Rattle.aabb.specs.Bounds.{bounded, contains, isEmpty, usable}
+use Rattle.aabb.specs.Bounds.{bounded, contains}
 use Rattle.aabb.specs.declared.bounds.Aabb.{Aabb}
+use Rattle.aabb.proofs.Holds.{bounded-usable}
 use Rattle.triangle.specs.Mesh.{centroidAt}
 use Rattle.builder.specs.declared.split.SplitDecision.{SplitDecision}
 use Rattle.builder.specs.declared.split.SplitDecision.the-variants.{MakeLeaf, Split}
@@ -25,14 +26,6 @@ use Rattle.builder.proofs.Growing.{decides-four, grow-deep, grow-fork, 
 use Rattle.builder.proofs.Linear.{linear-ahead}
 use Rattle.builder.proofs.Parting.{length-swap, moves-by}
 use Rattle.builder.proofs.Perm.{occ-append, perm-swap, sorted-occ}
-
-usable-of : (b : Aabb) → T (bounded b) → T (usable b)
-unfolding usable
-usable-of b h = or-left-T (bounded b) (isEmpty b) h
-  where
-    or-left-T : (x y : Bool) → T x → T (x || y)
-    or-left-T true y t = tt
-    or-left-T false y t = absurd t
 
 -- ---- a partition and the fallback keep the numbers
 moves-same : (keep : ℕ → Bool) (k l : ℕ) (xs : List ℕ) → l + k ≤ length xs → Perm (moves keep k l xs .ids) xs
@@ -122,7 +115,7 @@ fine-leaf m d f ids = record {
   runs = (refl, refl);
   room = omega arith;
   box-is = refl;
-  nested = λ h A. usable-of (nodeBox m ids) (node-bounded m ids h A);
+  nested = λ h A. bounded-usable (nodeBox m ids) (node-bounded m ids h A);
   none = λ e. refl;
 }
 

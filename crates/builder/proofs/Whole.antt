@@ -1,6 +1,7 @@
 -- Laws of the whole build. Assumes nothing.
 use mathlib.Core.Path.{_≡_, refl, sym, _∙_, ap}
 use Prim.Native.Nat.{ℕ, _+_, _*_, _-_, _/_, _%_, _≤_, _<_}
+use native.Mathlib.Nat.{sub-zero}
 use native.Mathlib.Omega.{arith}
 use mathlib.Core.Option.{Option, none, some}
 use mathlib.Core.List.{List, _++_}
@@ -19,6 +20,7 @@ use Rattle.builder.specs.declared.start.Found.the-variants.{At, Nothing}
 use Rattle.builder.specs.Build.{Outcome, built, checked, cramped, finished, firstRefused, outcome, room, upTo}
 use Rattle.builder.specs.Layout.{Divided, boxesOf, linksOf}
 use Rattle.builder.specs.Tree.{Grown, Tree, below, deepest, fork, grow, leaf, leaves, most-triangles}
+use Rattle.builder.proofs.Growing.{never, next-same}
 
 -- ---- nodes and leaves
 pub twice-leaves : (t : Tree) → below t + 2 ≡ 2 * leaves t
@@ -35,19 +37,13 @@ leaves-are t = half (below t) (leaves t) (twice-leaves t)
 alike : (a a′ : Built) (xs xs′ : List ℕ) (bs bs′ : List Float) (ls ls′ : List ℕ) → a ≡ a′ → xs ≡ xs′ → bs ≡ bs′ → ls ≡ ls′ → outcome a xs bs ls ≡ outcome a′ xs′ bs′ ls′
 alike a a′ xs xs′ bs bs′ ls ls′ p q r s = cc
 
-next-same : (n k : ℕ) → Next n ≡ Next k → n ≡ k
-next-same n k e = cc
-
-never : (r : Made) (n : ℕ) → r ≡ Next n → r ≡ Deep → ⊥
-never r n p q = let z : _≡_ {A = ℕ} 0 1 = cc in omega arith
-
 grew : (n k : ℕ) (e : n ≡ k) → Grew n (n / 2 + 1) ≡ Grew k (k / 2 + 1)
 grew n k e = ap (λ (z : ℕ). Grew z (z / 2 + 1)) e
 
 pub made-done : (n k : ℕ) (o : Option Grown) (r : Made) (xs d zs : List ℕ) (bs bs₁ : List Float) (ls ls₁ : List ℕ)
     → Divided o 0 1 bs ls r d bs₁ ls₁ → r ≡ Next k → zs ≡ d ++ drop n xs → outcome (Grew k (k / 2 + 1)) zs bs₁ ls₁ ≡ finished n o xs bs ls
 unfolding finished
-made-done n k none r xs d zs bs bs₁ ls ls₁ D e q = absurd (never r k e D)
+made-done n k none r xs d zs bs bs₁ ls ls₁ D e q = absurd (never k (sym e ∙ D))
 made-done n k (some g) r xs d zs bs bs₁ ls ls₁ D e q =
     alike (Grew k (k / 2 + 1)) (Grew (1 + below (g .tree)) (leaves (g .tree))) zs (g .ids ++ drop n xs) bs₁ (boxesOf (g .tree) 0 1 bs) ls₁ (linksOf (g .tree) 0 1 ls)
     (grew k (1 + below (g .tree)) (next-same k (1 + below (g .tree)) (sym e ∙ D .answer)) ∙ ap (λ (z : ℕ). Grew (1 + below (g .tree)) z) (leaves-are (g .tree)))
@@ -58,24 +54,21 @@ pub made-deep : (n : ℕ) (o : Option Grown) (r : Made) (xs d zs : List ℕ) (bs
     → outcome (Refused 6 0) zs bs₂ ls₂ ≡ finished n o xs bs ls
 unfolding finished
 made-deep n none r xs d zs bs bs₁ bs₂ ls ls₁ ls₂ D e p q s = alike (Refused 6 0) (Refused 6 0) zs (replicate (length xs) 0) bs₂ (replicate (length bs) nought) ls₂ (replicate (length ls) 0) refl p q s
-made-deep n (some g) r xs d zs bs bs₁ bs₂ ls ls₁ ls₂ D e p q s = absurd (never r (1 + below (g .tree)) (D .answer) e)
+made-deep n (some g) r xs d zs bs bs₁ bs₂ ls ls₁ ls₂ D e p q s = absurd (never (1 + below (g .tree)) (sym (D .answer) ∙ e))
 
 -- ---- a list whose front was lent, came back as c, and is lent again
 module _ (xs c : List ℕ) (n : ℕ) (h : n ≤ length xs) (e : length c ≡ length (take (n - 0) xs)) where
-  less : (n : ℕ) → n - 0 ≡ n
-  less n = omega arith
-
   pub c-length : length c ≡ n
-  c-length = e ∙ ap (λ (k : ℕ). length (take k xs)) (less n) ∙ length-take-le n xs h
+  c-length = e ∙ ap (λ (k : ℕ). length (take k xs)) (sub-zero n) ∙ length-take-le n xs h
 
   pub front-length-is : length (take (n - 0) xs) ≡ n
   front-length-is = sym e ∙ c-length
 
   pub lent-again : take (n - 0) (c ++ postOf 0 (n - 0) xs) ≡ c
-  lent-again = take-at c (drop (n - 0) xs) (n - 0) (c-length ∙ sym (less n))
+  lent-again = take-at c (drop (n - 0) xs) (n - 0) (c-length ∙ sym (sub-zero n))
 
   pub rest-again : drop (n - 0) (c ++ postOf 0 (n - 0) xs) ≡ drop n xs
-  rest-again = drop-at c (drop (n - 0) xs) (n - 0) (c-length ∙ sym (less n)) ∙ ap (λ (k : ℕ). drop k xs) (less n)
+  rest-again = drop-at c (drop (n - 0) xs) (n - 0) (c-length ∙ sym (sub-zero n)) ∙ ap (λ (k : ℕ). drop k xs) (sub-zero n)
 
   pub whole-length : length (c ++ postOf 0 (n - 0) xs) ≡ length xs
   whole-length = let a = length-append c (drop (n - 0) xs) in let b = length-drop (n - 0) xs in let d = c-length in omega arith

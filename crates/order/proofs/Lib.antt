@@ -1,3 +1,4 @@
+pub mod Cases
 pub mod Numbers
 pub mod Order
 pub mod Round

@@ -13,6 +13,7 @@ use lib.Ieee.Fits.{and-l, and-r, and-i, eq→eqb}
 use lib.Ieee.Positive.{den, den-pos}
 use lib.Ieee.Scale.{finite}
 use Rattle.order.specs.Number.{real}
+use Rattle.order.proofs.Cases.{or-l, or-r, or-split}
 
 -- ---- tests
 pub finite-real : (x : Float) → T (finite x) → T (real x)
@@ -22,18 +23,6 @@ finite-real (fin s m e) h = tt
 
 pub clash : {A : Type 0} (b : Bool) → b ≡ true → b ≡ false → A
 clash b p q = absurd (let w : _≡_ {A = ℕ} 0 1 = cc in omega arith)
-
-or-l : (a b : Bool) → T a → T (a || b)
-or-l true b t = tt
-or-l false b t = absurd t
-
-or-r : (a b : Bool) → T b → T (a || b)
-or-r true b t = tt
-or-r false b t = t
-
-or-split : (a b : Bool) → T (a || b) → T a ⊎ T b
-or-split true b t = inl tt
-or-split false b t = inr t
 
 -- ---- a finite value as a fraction
 abbrev pub gain : Float → ℕ

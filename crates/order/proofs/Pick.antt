@@ -6,6 +6,7 @@ use Prim.Native.Nat.{_*_}
 use lib.Dec.{T, eqb, eqb-refl}
 use lib.Ieee.{Float, nan, inf, fin, up, down, lt, le, ne, isNan}
 use Rattle.order.specs.Number.{real}
+use Rattle.order.proofs.Cases.{not-l}
 use Rattle.order.proofs.Order.{lt→le, le→real-l, le→real-r, not-lt→le, le-refl, le-trans}
 use Rattle.order.specs.Pick.{greater, lesser}
 
@@ -40,10 +41,6 @@ beside (inf s) false p h = h
 beside (fin s m e) true p h = tt
 beside (fin s m e) false p h = h
 
-beside-not : (t u : Bool) → T (not (t || u)) → T (not t)
-beside-not true u h = h
-beside-not false u h = tt
-
 -- ---- the greater and the lesser
 module _ (run x : Float) (p : T (real run)) (q : T (real x)) where
   pub greater-left : T (le run (greater run x))
@@ -52,7 +49,7 @@ module _ (run x : Float) (p : T (real run)) (q : T (real x)) where
 
   pub greater-right : T (le x (greater run x))
   unfolding greater
-  greater-right = high-right run x p q (lt run x || isNan run) (beside-not (lt run x) (isNan run))
+  greater-right = high-right run x p q (lt run x || isNan run) (not-l (lt run x) (isNan run))
 
   pub lesser-left : T (le (lesser run x) run)
   unfolding lesser
@@ -60,7 +57,7 @@ module _ (run x : Float) (p : T (real run)) (q : T (real x)) where
 
   pub lesser-right : T (le (lesser run x) x)
   unfolding lesser
-  lesser-right = low-right run x p q (lt x run || isNan run) (beside-not (lt x run) (isNan run))
+  lesser-right = low-right run x p q (lt x run || isNan run) (not-l (lt x run) (isNan run))
 
 pub greater-least : (run x z : Float) → T (le run z) → T (le x z) → T (le (greater run x) z)
 unfolding greater

@@ -6,25 +6,15 @@ use mathlib.Core.Bool.{Bool, true, false, cond, not, _&&_, _||_}
 use lib.IntN.{pos}
 use lib.Dec.{T}
 use lib.Ieee.{Float, nan, inf, fin, lt, eq, ne, div, isNan, binary64}
+use lib.Ieee.Bits.{is-true, is-false}
+use borrow.Author.Tests.{not-true}
 use Rattle.order.specs.Number.{real, nought, one}
 use Rattle.order.specs.Total.{lex, lessNumber, minusZero, lessZero, totalLess}
+use Rattle.order.proofs.Cases.{true-is, false-is}
 use Rattle.order.proofs.Numbers.{nought-is, one-is}
 use Rattle.order.proofs.Order.{clash, lt→le, le→real-l, le→real-r, le→not-lt, not-lt→le, le-trans}
 use Rattle.order.proofs.Pick.{nan-test}
 use Rattle.order.proofs.Absolute.{is-zero, not-zero}
-
--- ---- tests
-true-is : (b : Bool) → b ≡ true → T b
-true-is true p = tt
-true-is false p = clash false p refl
-
-false-is : (b : Bool) → b ≡ false → T (not b)
-false-is false p = tt
-false-is true p = clash true refl p
-
-is-false : (b : Bool) → T (not b) → b ≡ false
-is-false false t = refl
-is-false true t = absurd t
 
 -- ---- first by R, then by S
 pub lex-false : (r q s : Bool) → (r || (not q && s)) ≡ false → (r ≡ false) × (q ≡ false → s ≡ false)
@@ -100,10 +90,6 @@ unfolding totalLess
 weak-total = record { chain = weak-lex lessNumber lessZero weak-num weak-zero .chain; turn = weak-lex lessNumber lessZero weak-num weak-zero .turn }
 
 -- ---- numbers that differ, and equal ones but zeros, are told by comparisons
-is-true : (b : Bool) → T b → b ≡ true
-is-true true t = refl
-is-true false t = absurd t
-
 less-told : (x y : Float) → lt x y ≡ true → lessNumber x y ≡ true
 unfolding lessNumber
 less-told x y p =
@@ -181,15 +167,11 @@ zero-sign x p = ap (λ (z : Float). lt (div binary64 one x) z) nought-is ∙ ap 
 pub zero-none : (x : Float) → eq x nought ≡ false → false ≡ minusZero x
 zero-none x p = zero-no x (ap (λ (z : Float). eq x z) (sym nought-is) ∙ p)
 
-not-ne : (b : Bool) → not b ≡ true → b ≡ false
-not-ne true p = clash false p refl
-not-ne false p = refl
-
 pub total-level : (x y : Float) → lt x y ≡ false → (real x ≡ true) × (real y ≡ true) → ne x nought ≡ true → totalLess x y ≡ false
 unfolding totalLess ne
 total-level x y p r z =
     false-lex (lessNumber x y) (lessNumber y x) (lessZero x y) (level-number x y p (r .0) (r .1))
-    (λ e. level-zero x y (sym (zero-none x (not-ne (eq x nought) z))))
+    (λ e. level-zero x y (sym (zero-none x (not-true (eq x nought) z))))
 
 -- ---- two tests in a row
 pub lex-yes : (r q s : Bool) → r ≡ true → true ≡ (r || (not q && s))

@@ -1,6 +1,6 @@
 -- Each test that leads to a bad input, and what a good one has. Assumes nothing.
 use mathlib.Core.Path.{_≡_, refl, sym, ap, _∙_}
-use mathlib.Core.Bool.{Bool, true, false, _&&_, true≢false}
+use mathlib.Core.Bool.{Bool, true, false, _&&_, and-false, true≢false}
 use mathlib.Core.List.{List}
 use Prim.Native.Nat.{ℕ, _+_, _*_, _≤_, _<_}
 use native.Mathlib.Omega.{arith}
@@ -11,10 +11,6 @@ use Rattle.report.specs.declared.input.Input.{Input}
 use Rattle.report.specs.declared.input.Input.the-variants.{Good, Bad}
 use Rattle.report.specs.Little.{word}
 use Rattle.report.specs.Input.{most, countAt, wholeLength, fine, measuredBy, measured}
-
-and-false : (a : Bool) → (a && false) ≡ false
-and-false true = refl
-and-false false = refl
 
 many-triangles : (bytes n m : ℕ) → most < n → fine bytes n m ≡ false
 unfolding fine

@@ -3,7 +3,7 @@ use mathlib.Core.Path.{_≡_, refl, sym, ap, _∙_, subst}
 use mathlib.Core.Bool.{Bool, true, false}
 use mathlib.Core.List.{List, _++_}
 use Prim.Native.Nat.{ℕ, _+_, _*_, _-_, _≤_, _<_, min}
-use native.Mathlib.Nat.{min-eq-left, min-eq-right, min-le-left, mul-le-mul-right}
+use native.Mathlib.Nat.{sub-zero, min-eq-left, min-eq-right, min-le-left, mul-le-mul-right}
 use native.Mathlib.Omega.{arith}
 use borrow.Author.Tests.{leb-true, leb-false}
 use lib.Dec.{leb}
@@ -23,9 +23,6 @@ use Rattle.report.specs.Lines.{badInput, buildRefusedLine, builtLine}
 use Rattle.report.specs.Survey.{rayLines, handed, builtOf, reportOf, reported, surveyedAs, surveyed}
 
 -- ---- the parts of the room
-whole-part : (n : ℕ) → n - 0 ≡ n
-whole-part n = omega arith
-
 -- the front of a list that has room for 399 nodes of w numbers each
 shown : {A : Type 0} (xs : List A) (w nodes r : ℕ) → length xs ≡ 399 * w → r ≡ min nodes 399 → take (r * w) xs ≡ take (nodes * w) xs
 shown xs w nodes r h e = go (leb nodes 399) refl
@@ -43,7 +40,7 @@ shown xs w nodes r h e = go (leb nodes 399) refl
 pub handed-is : (mesh : List Float) (n nodes r : ℕ) (a : Built) (i : List ℕ) (b : List Float) (l : List ℕ) → length b ≡ 2394 → length l ≡ 1197 → r ≡ min nodes 399
     → lent mesh (take (n - 0) i) (take (r * 6 - 0) b) (take (r * 3 - 0) l) ≡ handed mesh n nodes (outcome a i b l)
 unfolding handed
-handed-is mesh n nodes r a i b l h k e = rw (whole-part n, whole-part (r * 6), whole-part (r * 3), shown b 6 nodes r h e, shown l 3 nodes r k e)
+handed-is mesh n nodes r a i b l h k e = rw (sub-zero n, sub-zero (r * 6), sub-zero (r * 3), shown b 6 nodes r h e, shown l 3 nodes r k e)
 
 pub mesh-read : (xs : List Float) (n m l : ℕ) → l ≡ 4 + 96 * n + 4 + 48 * m → 4 + 8 * length (take (n * 12 - 0) xs) ≤ l
 mesh-read xs n m l e = omega (arith, length-take (n * 12 - 0) xs, min-le-left (n * 12 - 0) (length xs))
@@ -55,8 +52,8 @@ mesh-within xs c n h k = rw (length-front xs c (n * 12 - 0) k) h
 pub mesh-is : (s : List ℕ) (xs c : List Float) (n : ℕ) → n * 12 ≤ length xs → length c ≡ length (take (n * 12 - 0) xs) → c ≡ numbers s 4 (length (take (n * 12 - 0) xs))
     → take (n * 12 - 0) (c ++ drop (n * 12 - 0) xs) ≡ numbers s 4 (n * 12)
 mesh-is s xs c n h k e =
-    let w : length (take (n * 12 - 0) xs) ≡ n * 12 = ap (λ (z : ℕ). length (take z xs)) (whole-part (n * 12)) ∙ length-take-le (n * 12) xs h in
-    take-at c (drop (n * 12 - 0) xs) (n * 12 - 0) (k ∙ w ∙ sym (whole-part (n * 12))) ∙ e ∙ ap (λ (z : ℕ). numbers s 4 z) w
+    let w : length (take (n * 12 - 0) xs) ≡ n * 12 = ap (λ (z : ℕ). length (take z xs)) (sub-zero (n * 12)) ∙ length-take-le (n * 12) xs h in
+    take-at c (drop (n * 12 - 0) xs) (n * 12 - 0) (k ∙ w ∙ sym (sub-zero (n * 12))) ∙ e ∙ ap (λ (z : ℕ). numbers s 4 z) w
 
 -- ---- the build's cases
 module _ (s : List ℕ) (mesh : List Float) (n m : ℕ) (a : Built) (i : List ℕ) (b : List Float) (l : List ℕ) (p : outcome a i b l ≡ builtOf mesh) where

@@ -1,7 +1,7 @@
 -- A walk of an accepted tree: no refusal, and the counts and the hit are those of the nodes and leaves whose own box the ray passes. Walking
 -- a tree with the rest pending is counting the tree and then walking the rest. Assumes nothing.
 use mathlib.Core.Path.{_≡_, refl, sym, ap, _∙_}
-use mathlib.Core.Bool.{Bool, true, false, not, _&&_, _||_, cond}
+use mathlib.Core.Bool.{Bool, true, false, not, cond}
 use mathlib.Core.List.{List, [], _∷_, _++_}
 use Prim.Native.Nat.{ℕ, zero, suc, _+_, _-_, _*_, _%_, _≤_, _<_, max}
 use native.Mathlib.Nat.{zero-add}
@@ -9,6 +9,7 @@ use native.Mathlib.Omega.{arith}
 use borrow.Author.Tests.{lt-leb, le-leb, le-ltb, lt-ltb, eq-eqb, ne-eqb}
 use lib.Dec.{T, T-not, not-T, leb, ltb, eqb}
 use lib.ListN.{length, getD, length-append}
+use lib.Ieee.Bits.{is-true, is-false}
 use Rattle.aabb.specs.declared.vector.Ray.{Ray}
 use Rattle.aabb.specs.declared.bounds.Aabb.{Aabb}
 use Rattle.aabb.specs.Vector.{admittedRay}
@@ -28,15 +29,6 @@ use Rattle.scene.specs.Tree.{Tree, leaf, internal, boxOf, size, leaves, 
 use Rattle.scene.proofs.Judged.{both-put}
 use Rattle.scene.proofs.Going.{none-pending, one-left}
 use Rattle.scene.proofs.Entrance.{entered as walk-entered}
-
--- ---- tests
-yes-test : (b : Bool) → T b → b ≡ true
-yes-test true h = refl
-yes-test false h = absurd h
-
-no-test : (b : Bool) → T (not b) → b ≡ false
-no-test true h = absurd h
-no-test false h = refl
 
 -- ---- counts
 pub short : (r : Ray) (t : Tree) → 1 + 2 * entered r t ≤ size t
@@ -78,7 +70,7 @@ module _ (r : Ray) (R : T (admittedRay r)) where
   dropped (internal b u v) N n =
       let U = dropped u (N .3) (outside b (boxOf u) (N .0) (N .1 .0) (N .1 .1) n) in
       let W = dropped v (N .4) (outside b (boxOf v) (N .0) (N .2 .0) (N .2 .1) n) in
-      (rw (no-test (passes r b) n, U .0, W .0), rw (U .1, W .1))
+      (rw (is-false (passes r b) n, U .0, W .0), rw (U .1, W .1))
 
 -- ---- what a part of the walk adds to the tally
 nearest-append : (s : Lent) (r : Ray) (best : Nearest) (ps qs : List ℕ) → nearest s r best (ps ++ qs) ≡ nearest s r (nearest s r best ps) qs
@@ -102,14 +94,14 @@ module _ (s : Lent) (r : Ray) (entries : (p : ℕ) → p < length (s .index) →
   scan-all (suc c) p a h =
       let k = getD (s .index) p 0 in
       let e = entries p (omega arith) in
-      rw (lt-leb (triangleCount (s .triangles)) k e, yes-test (admittedTriangle (triangleAt (s .triangles) k)) (fine k e))
+      rw (lt-leb (triangleCount (s .triangles)) k e, is-true (admittedTriangle (triangleAt (s .triangles) k)) (fine k e))
       (scan-all c (suc p) (tested (s .triangles) r k a) (omega arith) ∙ ap Down (tally _ _ _ _ _ _ refl (omega arith) refl))
 
   leaf-visit : (i besides : ℕ) (x : Node) (a : Tally) (b : Aabb) (p c : ℕ) → IsLeaf s x b p c → T (usable b)
       → judged s r i x besides a ≡ Down (more s r 1 (cond (passes r b) (places c p) []) a)
   unfolding judged sound opened openLeaf boxed
   leaf-visit i besides x a b p c H B =
-      rw (H .bounds, H .first, H .count, H .kind, yes-test (usable b) B, le-ltb (length (s .index)) (p + c) (H .inside))
+      rw (H .bounds, H .first, H .count, H .kind, is-true (usable b) B, le-ltb (length (s .index)) (p + c) (H .inside))
       (go (passes r b))
     where
       go : (q : Bool) → cond q (scan (s .triangles) (s .index) r c p (boxed a)) (Down (boxed a)) ≡ Down (more s r 1 (cond q (places c p) []) a)
@@ -118,7 +110,7 @@ module _ (s : Lent) (r : Ray) (entries : (p : ℕ) → p < length (s .index) →
 
   sound-internal : (x : Node) (b : Aabb) → IsInternal s x b → T (usable b) → sound x ≡ true
   unfolding sound
-  sound-internal x b H B = rw (H .bounds, yes-test (usable b) B, H .kind, H .count)
+  sound-internal x b H B = rw (H .bounds, is-true (usable b) B, H .kind, H .count)
 
   internal-visit : (i besides : ℕ) (x : Node) (a : Tally) (b : Aabb) → IsInternal s x b → T (usable b) → besides + 2 ≤ most-pending
       → judged s r i x besides a ≡ cond (passes r b) (Open (leftOf x) (rightOf x) (boxed a)) (Down (boxed a))
@@ -183,7 +175,7 @@ pub accepted : (s : Lent) (t : Tree) (r : Ray) → Accepted s t → T (admittedR
 accepted s t r A R =
     let n = nodeCount (s .links) in
     let left = n - (1 + 2 * entered r t) in
-    sym (walk-entered s r (A .whole) (A .few) (yes-test (admittedRay r) R) (A .fitted))
+    sym (walk-entered s r (A .whole) (A .few) (is-true (admittedRay r) R) (A .fitted))
     ∙ tree-walks s r (A .entries) (A .admitted) R t 0 [] n left start (A .holds) (A .nested) (omega (arith, A .shallow)) (omega (arith, A .sized, short r t))
     ∙ none-pending s r left (more s r (1 + 2 * entered r t) (reached r t) start)
     ∙ rw (zero-add (1 + 2 * entered r t), zero-add (length (reached r t)))

@@ -1,6 +1,6 @@
 -- The refusals before the first step, each from the tests that code makes, and what links that are no misfit give. Assumes nothing.
-use mathlib.Core.Path.{_≡_, refl, sym, ap, _∙_}
-use mathlib.Core.Bool.{Bool, true, false, not, _||_, true≢false}
+use mathlib.Core.Path.{_≡_}
+use mathlib.Core.Bool.{true, false, not, _||_}
 use mathlib.Core.List.{List, [], _∷_}
 use Prim.Native.Nat.{ℕ, _+_, _*_, _/_, _%_, _≤_, _<_}
 use native.Mathlib.Omega.{arith}
@@ -8,22 +8,19 @@ use borrow.Author.Tests.{eqb-false, eqb-true, ltb-false, not-false, eq-eqb, ne-e
 use lib.Dec.{eqb, ltb}
 use lib.ListN.{length}
 use lib.Ieee.{Float}
+use Rattle.order.proofs.Cases.{neither}
 use Rattle.aabb.specs.declared.vector.Ray.{Ray}
 use Rattle.aabb.specs.Vector.{admittedRay}
 use Rattle.scene.specs.Lent.{Lent, triangleCount, most-triangles, nodeCount, most-nodes}
 use Rattle.scene.specs.Walk.{misfit, start, refused, run, walk}
 
-or-no : (a b : Bool) → (a || b) ≡ false → (a ≡ false) × (b ≡ false)
-or-no true b h = absurd (true≢false h)
-or-no false b h = (refl, h)
-
 pub fitting : (boxes : List Float) (links : List ℕ) → misfit boxes links ≡ false → (0 < nodeCount links) × (nodeCount links ≤ most-nodes)
 unfolding misfit
 fitting boxes links h =
     let n = length links in
-    let a = or-no (eqb n 0) (not (eqb (n % 3) 0) || (ltb most-nodes (nodeCount links) || not (eqb (length boxes) (2 * n)))) h in
-    let b = or-no (not (eqb (n % 3) 0)) (ltb most-nodes (nodeCount links) || not (eqb (length boxes) (2 * n))) (a .1) in
-    let c = or-no (ltb most-nodes (nodeCount links)) (not (eqb (length boxes) (2 * n))) (b .1) in
+    let a = neither (eqb n 0) (not (eqb (n % 3) 0) || (ltb most-nodes (nodeCount links) || not (eqb (length boxes) (2 * n)))) h in
+    let b = neither (not (eqb (n % 3) 0)) (ltb most-nodes (nodeCount links) || not (eqb (length boxes) (2 * n))) (a .1) in
+    let c = neither (ltb most-nodes (nodeCount links)) (not (eqb (length boxes) (2 * n))) (b .1) in
     let w : n % 3 ≡ 0 = eqb-true (n % 3) 0 (not-false (eqb (n % 3) 0) (b .0)) in
     let z : n ≡ 0 → ⊥ = eqb-false n 0 (a .0) in
     (omega arith, ltb-false most-nodes (nodeCount links) (c .0))

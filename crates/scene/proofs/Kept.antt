@@ -9,6 +9,7 @@ use borrow.Author.Tests.{leb-false, ltb-false}
 use lib.Dec.{leb, ltb, eqb}
 use lib.ListN.{length, getD}
 use lib.Ieee.{Float}
+use Rattle.order.proofs.Cases.{neither}
 use Rattle.aabb.specs.declared.vector.Ray.{Ray}
 use Rattle.aabb.specs.Slab.{passes}
 use Rattle.triangle.specs.Mesh.{triangleAt, admittedTriangle}
@@ -38,14 +39,6 @@ Leaves nodes besides b t (Open left right a) = Opens nodes besides b t left righ
 either : (P : Turn → Type 0) (d : Bool) (t u : Turn) → (d ≡ true → P t) → (d ≡ false → P u) → P (cond d t u)
 either P true t u f g = f refl
 either P false t u f g = g refl
-
-or-left : (a b : Bool) → (a || b) ≡ false → a ≡ false
-or-left true b h = absurd (mathlib.Core.Bool.true≢false h)
-or-left false b h = refl
-
-or-right : (a b : Bool) → (a || b) ≡ false → b ≡ false
-or-right true b h = absurd (mathlib.Core.Bool.true≢false h)
-or-right false b h = h
 
 module _ (nodes besides boxes most : ℕ) where
   abbrev P : Turn → Type 0
@@ -81,8 +74,8 @@ module _ (nodes besides boxes most : ℕ) where
       either P (l || r) (Refuse 9 i) (cond full (Refuse 11 i) put) (λ e. tt)
       (λ e. either P full (Refuse 11 i) put (λ f. tt)
       (λ f. record {
-        left-there = leb-false nodes (leftOf x) (or-left l r e);
-        right-there = leb-false nodes (rightOf x) (or-right l r e);
+        left-there = leb-false nodes (leftOf x) (neither l r e .0);
+        right-there = leb-false nodes (rightOf x) (neither l r e .1);
         room = ltb-false most-pending (besides + 2) f;
         counts = h;
       }))

@@ -3,12 +3,12 @@ use mathlib.Core.Path.{_≡_, refl, sym, ap, _∙_}
 use Prim.Native.Nat.{ℕ, zero, suc, _+_, _*_, _≤_, _<_}
 use native.Mathlib.Omega.{arith}
 use native.Mathlib.Numerals.{add-one}
-use native.Mathlib.Decide.{ℕ-discrete}
-use mathlib.Core.Logic.{_⊎_, inl, inr, ⊎-elim}
+use mathlib.Core.Logic.{_⊎_, ⊎-elim}
 use mathlib.Core.List.{List, [], _∷_, _++_}
 use lib.ListN.{length, set, getD, drop, length-append, List·getD-append}
 use lib.Seq.{drop-cons, set-append-seam, getD-append-seam}
 use lib.Ieee.{Float, nan}
+use Rattle.order.proofs.Cases.{same?}
 use Rattle.aabb.specs.declared.vector.Vec3.{Vec3}
 use Rattle.aabb.specs.declared.vector.Ray.{Ray}
 use Rattle.aabb.specs.Vector.{vectorAt}
@@ -133,9 +133,6 @@ read-back (p ∷ ps) times told (suc k) d h =
   where
     at : (i j : ℕ) → i ≡ j + 4 → getD (p .outcome ∷ p .which ∷ p .boxes ∷ p .triangles ∷ (toldOf ps ++ told)) i 0 ≡ getD (toldOf ps ++ told) j 0
     at i j e = past (p .outcome) (p .which) (p .boxes) (p .triangles) (toldOf ps ++ told) i j e
-
-same? : (a b : ℕ) → (a ≡ b) ⊎ (a ≡ b → ⊥)
-same? a b = elim (ℕ-discrete a b) [ yes p ↦ inl p | no n ↦ inr n ]
 
 place-in : (s : Lent) (rays : List Float) (n k : ℕ) (d : Place) → k < n → getD (places s rays n) k d ≡ placeOf (walk s (rayAt rays k))
 unfolding places

@@ -6,6 +6,7 @@ use lib.Dec.{T}
 use lib.Ieee.{Float, binary64, sub, mul, lt, le}
 use Rattle.order.specs.Number.{real, nought, infinity}
 use Rattle.order.specs.Pick.{lesser, greater}
+use Rattle.order.proofs.Cases.{neither}
 use Rattle.order.proofs.Numbers.{nought-is, infinity-is}
 use Rattle.order.proofs.Order.{lt→le, le→real-l, le→real-r, le-refl, le-trans, lt-le-trans, le-lt-trans}
 use Rattle.order.proofs.Pick.{lower-is as one-lower, higher-is as one-higher}
@@ -102,27 +103,19 @@ one-test false false false true e x f g h = absurd (h tt)
 one-test false false false false e x f g h = refl
 
 -- ---- an aim that is not flat has no flat axis
-or-left : (a b : Bool) → (a || b) ≡ false → a ≡ false
-or-left true b h = h
-or-left false b h = refl
-
-or-right : (a b : Bool) → (a || b) ≡ false → b ≡ false
-or-right true b h = absurd (mathlib.Core.Bool.true≢false h)
-or-right false b h = h
-
 module _ (m : Aim) (A : m ≡ aimed (m .ray)) (f : m .flat ≡ false) where
   together : (m .x .flat || (m .y .flat || m .z .flat)) ≡ false
   unfolding aimed sighted
   together = ap (λ (a : Aim). a .x .flat || (a .y .flat || a .z .flat)) A ∙ sym (ap (λ (a : Aim). a .flat) A) ∙ f
 
   x-not : m .x .flat ≡ false
-  x-not = or-left (m .x .flat) (m .y .flat || m .z .flat) together
+  x-not = neither (m .x .flat) (m .y .flat || m .z .flat) together .0
 
   y-not : m .y .flat ≡ false
-  y-not = or-left (m .y .flat) (m .z .flat) (or-right (m .x .flat) (m .y .flat || m .z .flat) together)
+  y-not = neither (m .y .flat) (m .z .flat) (neither (m .x .flat) (m .y .flat || m .z .flat) together .1) .0
 
   z-not : m .z .flat ≡ false
-  z-not = or-right (m .y .flat) (m .z .flat) (or-right (m .x .flat) (m .y .flat || m .z .flat) together)
+  z-not = neither (m .y .flat) (m .z .flat) (neither (m .x .flat) (m .y .flat || m .z .flat) together .1) .1
 
   module _ (b : Aabb) where
     abbrev r : Ray
