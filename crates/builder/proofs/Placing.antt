@@ -369,8 +369,8 @@ parent-in bs ls (leaf b f c) node next j (at-leaf n) x y = absurd (omega arith)
 parent-in bs ls (fork b l r) node next j (at-fork n p q) x y =
     one-parent bs ls b l r node next j n p q x y (λ u v. parent-in bs ls l next (next + 2) j p u v) (λ u v. parent-in bs ls r (next + 1) (next + 2 + below l) j q u v) (low-or-high j (next + 2)) (low-or-high j (next + 2 + below l))
 
-pub only-child : (bs : List Float) (ls : List ℕ) (t : Tree) (j : ℕ) → Placed bs ls 0 1 t → 0 < j → j < size t → OnlyChild ls (size t) j
-only-child bs ls t j p x y =
+pub child-of-one : (bs : List Float) (ls : List ℕ) (t : Tree) (j : ℕ) → Placed bs ls 0 1 t → 0 < j → j < size t → OnlyChild ls (size t) j
+child-of-one bs ls t j p x y =
     let P = parent-in bs ls t 0 1 j p x y in
     record {
       parent = P .parent;

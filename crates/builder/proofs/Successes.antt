@@ -29,7 +29,7 @@ use Rattle.builder.specs.Tree.{Grown, Tree, below, deepest, grow, leaves
 use Rattle.builder.proofs.Enclosing.{Admitted, node-bounded}
 use Rattle.builder.proofs.Fills.{room-is}
 use Rattle.builder.proofs.Perm.{hit-cases, occ-append, occ-at}
-use Rattle.builder.proofs.Placing.{Placed, boxes-length, held, links-length, only-child, placed, placed-same, same-numbers}
+use Rattle.builder.proofs.Placing.{Placed, boxes-length, held, links-length, child-of-one, placed, placed-same, same-numbers}
 use Rattle.builder.proofs.Rest.{boxes-rest, links-rest}
 use Rattle.builder.proofs.Trees.{Fine, Of-some, grown-fine}
 use Rattle.builder.proofs.Whole.{twice-leaves}
@@ -252,7 +252,7 @@ module _ (mesh : List Float) (index : List ℕ) (boxes : List Float) (links : Li
         permuted = fine .same;
         nodes-are = omega arith;
         odd-nodes = let e = twice-leaves t in omega arith;
-        once = λ j x y. only-child B′ L′ t j stands x y;
+        once = λ j x y. child-of-one B′ L′ t j stands x y;
         finite = λ h. subst⁻¹ (λ (z : Aabb). T (bounded z)) (fine .box-is) (node-bounded mesh ids (omega arith) all-admits);
       }
 
