@@ -31,14 +31,6 @@ use Rattle.scene.proofs.Going.{none-pending, one-left}
 use Rattle.scene.proofs.Entrance.{entered as walk-entered}
 
 -- ---- counts
-pub short : (r : Ray) (t : Tree) → 1 + 2 * entered r t ≤ size t
-short r (leaf b p c) = omega arith
-short r (internal b u v) = go (passes r b) (short r u) (short r v)
-  where
-    go : (q : Bool) → 1 + 2 * entered r u ≤ size u → 1 + 2 * entered r v ≤ size v → 1 + 2 * (cond q 1 0 + (entered r u + entered r v)) ≤ 1 + (size u + size v)
-    go true h k = omega arith
-    go false h k = omega arith
-
 -- 2L-1 nodes
 pub odd-size : (t : Tree) → size t + 1 ≡ 2 * leaves t
 odd-size (leaf b p c) = refl
@@ -170,7 +162,15 @@ module _ (s : Lent) (r : Ray) (entries : (p : ℕ) → p < length (s .index) →
     tree-walks (leaf b p c) = leaf-walks b p c
     tree-walks (internal b u v) = λ i rest left later a H N d e. internal-case b u v i rest left later a H N d e (passes r b) refl (tree-walks u) (tree-walks v)
 
--- ---- the theorem
+-- ---- the theorem: the steps suffice, as there is at most one box test for each node
+pub short : (r : Ray) (t : Tree) → 1 + 2 * entered r t ≤ size t
+short r (leaf b p c) = omega arith
+short r (internal b u v) = go (passes r b) (short r u) (short r v)
+  where
+    go : (q : Bool) → 1 + 2 * entered r u ≤ size u → 1 + 2 * entered r v ≤ size v → 1 + 2 * (cond q 1 0 + (entered r u + entered r v)) ≤ 1 + (size u + size v)
+    go true h k = omega arith
+    go false h k = omega arith
+
 pub accepted : (s : Lent) (t : Tree) (r : Ray) → Accepted s t → T (admittedRay r) → walk s r ≡ foundIn s r t
 accepted s t r A R =
     let n = nodeCount (s .links) in
