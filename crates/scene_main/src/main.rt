@@ -3,6 +3,7 @@
 use aabb::Ray;
 use aabb::Vec3;
 use scene::Answer;
+ghost use Prim.Native.Nat.{_≤_};
 
 fn main() {
     probes();
@@ -93,6 +94,41 @@ fn probe() -> [f64; 12] {
     [0.0, 0.0, 0.0, 1.0, 0.0, 0.0, 0.0, 1.0, 0.0, 0.0, 0.0, 1.0]
 }
 
+// The right-angled triangle with its corner at (x, 0, z), legs of this length along x and y, and the normal up, put into a mesh of five at most.
+fn upward(mesh: [f64; 60], at: usize, x: f64, z: f64, leg: f64) -> [f64; 60]
+    requires { ⌜ at ≤ 48 ⌝ }
+{
+    let mut more = mesh;
+    more[at] = x;
+    more[at + 2] = z;
+    more[at + 3] = x + leg;
+    more[at + 5] = z;
+    more[at + 6] = x;
+    more[at + 7] = leg;
+    more[at + 8] = z;
+    more[at + 11] = 1.0;
+    more
+}
+
+// The box from (x, 0, 0) to (far, side, high), put among three.
+fn spanned(boxes: [f64; 18], at: usize, x: f64, far: f64, side: f64, high: f64) -> [f64; 18]
+    requires { ⌜ at ≤ 12 ⌝ }
+{
+    let mut more = boxes;
+    more[at] = x;
+    more[at + 3] = far;
+    more[at + 4] = side;
+    more[at + 5] = high;
+    more
+}
+
+// Three times the box from the origin to (1, 1, high).
+fn alike(high: f64) -> [f64; 18] {
+    let one = spanned([0.0; 18], 0, 0.0, 1.0, 1.0, high);
+    let two = spanned(one, 6, 0.0, 1.0, 1.0, high);
+    spanned(two, 12, 0.0, 1.0, 1.0, high)
+}
+
 // ---- the probes with one triangle
 fn one(label: &[u8], r: Ray) {
     let mesh = probe();
@@ -125,89 +161,15 @@ fn probes() {
 
 // ---- P10's mesh and tree
 fn wide(label: &[u8], r: Ray) {
-    let mesh = [
-        0.0,
-        0.0,
-        0.0,
-        3.0,
-        0.0,
-        0.0,
-        0.0,
-        3.0,
-        0.0,
-        0.0,
-        0.0,
-        1.0,
-        16.0,
-        0.0,
-        0.0,
-        19.0,
-        0.0,
-        0.0,
-        16.0,
-        3.0,
-        0.0,
-        0.0,
-        0.0,
-        1.0,
-        32.0,
-        0.0,
-        0.0,
-        35.0,
-        0.0,
-        0.0,
-        32.0,
-        3.0,
-        0.0,
-        0.0,
-        0.0,
-        1.0,
-        48.0,
-        0.0,
-        0.0,
-        51.0,
-        0.0,
-        0.0,
-        48.0,
-        3.0,
-        0.0,
-        0.0,
-        0.0,
-        1.0,
-        64.0,
-        0.0,
-        0.0,
-        67.0,
-        0.0,
-        0.0,
-        64.0,
-        3.0,
-        0.0,
-        0.0,
-        0.0,
-        1.0,
-    ];
+    let one = upward([0.0; 60], 0, 0.0, 0.0, 3.0);
+    let two = upward(one, 12, 16.0, 0.0, 3.0);
+    let three = upward(two, 24, 32.0, 0.0, 3.0);
+    let four = upward(three, 36, 48.0, 0.0, 3.0);
+    let mesh = upward(four, 48, 64.0, 0.0, 3.0);
     let index = [0u32, 1, 3, 4, 2];
-    let boxes = [
-        0.0,
-        0.0,
-        0.0,
-        67.0,
-        3.0,
-        0.0,
-        0.0,
-        0.0,
-        0.0,
-        19.0,
-        3.0,
-        0.0,
-        32.0,
-        0.0,
-        0.0,
-        67.0,
-        3.0,
-        0.0,
-    ];
+    let whole = spanned([0.0; 18], 0, 0.0, 67.0, 3.0, 0.0);
+    let left = spanned(whole, 6, 0.0, 19.0, 3.0, 0.0);
+    let boxes = spanned(left, 12, 32.0, 67.0, 3.0, 0.0);
     let links = [1u32, 0, 0, 0, 2, 1, 2, 3, 1];
     show(label, scene::walk(&mesh, &index, &boxes, &links, r));
 }
@@ -358,39 +320,24 @@ fn leaves() {
 }
 
 // ---- triangles that are not admitted: two triangles, the second with three of its numbers given
+fn changed(mesh: [f64; 60], v1_y: f64, v2_z: f64, normal_z: f64) -> [f64; 60] {
+    let mut more = mesh;
+    more[16] = v1_y;
+    more[20] = v2_z;
+    more[23] = normal_z;
+    more
+}
+
 fn second(label: &[u8], v1_y: f64, v2_z: f64, normal_z: f64, entry: u32, other: u32) {
-    let mesh = [
-        0.0,
-        0.0,
-        0.0,
-        1.0,
-        0.0,
-        0.0,
-        0.0,
-        1.0,
-        0.0,
-        0.0,
-        0.0,
-        1.0,
-        0.0,
-        0.0,
-        0.0,
-        1.0,
-        v1_y,
-        0.0,
-        0.0,
-        1.0,
-        v2_z,
-        0.0,
-        0.0,
-        normal_z,
-    ];
+    let one = upward([0.0; 60], 0, 0.0, 0.0, 1.0);
+    let two = upward(one, 12, 0.0, 0.0, 1.0);
+    let mesh = changed(two, v1_y, v2_z, normal_z);
     let index = [entry, other];
     let boxes = [0.0, 0.0, 0.0, 1.0, 1.0, 0.0];
     let links = [0u32, 2, 1];
     show(
         label,
-        scene::walk(&mesh, &index, &boxes, &links, down(0.25, 0.25, 1.0)),
+        scene::walk(&mesh[0..24], &index, &boxes, &links, down(0.25, 0.25, 1.0)),
     );
 }
 
@@ -443,26 +390,7 @@ fn loops() {
 fn shared(label: &[u8], left_or_first: u32, amount: u32, kind: u32) {
     let mesh = probe();
     let index = [0u32];
-    let boxes = [
-        0.0,
-        0.0,
-        0.0,
-        1.0,
-        1.0,
-        0.0,
-        0.0,
-        0.0,
-        0.0,
-        1.0,
-        1.0,
-        0.0,
-        0.0,
-        0.0,
-        0.0,
-        1.0,
-        1.0,
-        0.0,
-    ];
+    let boxes = alike(0.0);
     let links = [1u32, 0, 0, 0, 1, 1, left_or_first, amount, kind];
     show(
         label,
@@ -472,69 +400,15 @@ fn shared(label: &[u8], left_or_first: u32, amount: u32, kind: u32) {
 
 // ---- ties: two triangles at the same t, in two leaves; the lower number wins, whichever is met first
 fn tie(label: &[u8], left: u32, right: u32) {
-    let mesh = [
-        0.0,
-        0.0,
-        0.0,
-        1.0,
-        0.0,
-        0.0,
-        0.0,
-        1.0,
-        0.0,
-        0.0,
-        0.0,
-        1.0,
-        0.0,
-        0.0,
-        0.0,
-        1.0,
-        0.0,
-        0.0,
-        0.0,
-        1.0,
-        0.0,
-        0.0,
-        0.0,
-        1.0,
-        0.0,
-        0.0,
-        0.5,
-        1.0,
-        0.0,
-        0.5,
-        0.0,
-        1.0,
-        0.5,
-        0.0,
-        0.0,
-        1.0,
-    ];
+    let one = upward([0.0; 60], 0, 0.0, 0.0, 1.0);
+    let two = upward(one, 12, 0.0, 0.0, 1.0);
+    let mesh = upward(two, 24, 0.0, 0.5, 1.0);
     let index = [left, right];
-    let boxes = [
-        0.0,
-        0.0,
-        0.0,
-        1.0,
-        1.0,
-        0.5,
-        0.0,
-        0.0,
-        0.0,
-        1.0,
-        1.0,
-        0.5,
-        0.0,
-        0.0,
-        0.0,
-        1.0,
-        1.0,
-        0.5,
-    ];
+    let boxes = alike(0.5);
     let links = [1u32, 0, 0, 0, 1, 1, 1, 1, 1];
     show(
         label,
-        scene::walk(&mesh, &index, &boxes, &links, down(0.25, 0.25, 1.0)),
+        scene::walk(&mesh[0..36], &index, &boxes, &links, down(0.25, 0.25, 1.0)),
     );
 }
 
