@@ -1,5 +1,7 @@
 -- The three numbers on the axis, or those of the triangle read, give the centroid there. Assumes nothing.
-use Rattle.triangle.specs.Mesh.{centroidAt}
+use mathlib.Core.Path.{_∙_, ap}
+use Rattle.aabb.specs.Vector.{along}
+use Rattle.triangle.specs.Mesh.{centroidAt, centroidOf, triangleAt}
 use Rattle.builder.proofs.Passes.{centroid-there}
 use borrow.Author.Needs.{needs}
 use Rattle.builder.proofs.range.centroid_on.Statement.{statement}
@@ -55,7 +57,10 @@ along-requires c κs = search needs
 
 returns-2 : tie.Need-returns-2
 unfolding centroidAt
-returns-2 c = cc
+returns-2 c =
+    let a = c .before .before .before .before .before .before .args in
+    c .along .ensures
+    ∙ ap (along (a .axis)) (c .before .centroid .ensures ∙ ap centroidOf (c .before .before .read .ensures ∙ ap (triangleAt (a .triangles .now)) (c .before .before .before .before .wide .ensures)))
 
 pub centroid-on-spec : {M : Type 1} → statement M
 centroid-on-spec =

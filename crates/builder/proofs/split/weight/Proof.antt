@@ -1,4 +1,8 @@
 -- The operations are the definition's, in its order. Assumes nothing.
+use mathlib.Core.Path.{ap}
+use lib.Ieee.{Float, mul, binary64}
+use Rattle.order.specs.Number.{one-and-half}
+use Rattle.builder.specs.Bins.{whole}
 use Rattle.builder.specs.Choice.{weight}
 use borrow.Author.Needs.{needs}
 use Rattle.builder.proofs.split.weight.Statement.{statement}
@@ -12,7 +16,7 @@ surface-area-requires c κs = search needs
 
 returns : tie.Need-returns
 unfolding weight
-returns c = cc
+returns c = ap (λ (z : Float). mul binary64 (mul binary64 z (whole (c .before .before .args .b .count))) one-and-half) (c .surface-area .ensures)
 
 pub weight-spec : {M : Type 1} → statement M
 weight-spec = tie.close (tie.spec int-to-float-n surface-area-requires returns)

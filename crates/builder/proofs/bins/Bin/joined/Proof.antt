@@ -1,5 +1,9 @@
 -- The fields are the definition's. Assumes nothing.
+use mathlib.Core.Path.{ap}
+use Prim.Native.Nat.{_+_}
 use native.Mathlib.Omega.{arith}
+use Rattle.aabb.specs.declared.bounds.Aabb.{Aabb}
+use Rattle.builder.specs.declared.bins.Bin.{Bin}
 use Rattle.builder.specs.Bins.{joinBins}
 use Rattle.builder.proofs.bins.Bin.joined.Statement.{statement}
 use Rattle.builder.proofs.bins.Bin.joined.Tie as tie
@@ -12,7 +16,9 @@ add-t4 c = omega (arith, c .before .before .before .pre .0)
 
 returns : tie.Need-returns
 unfolding joinBins
-returns c = (cc, c .before .before .joined .ensures .1)
+returns c =
+    let a = c .before .before .before .args in
+    (ap {B = Bin} (λ (z : Aabb). record { count = a .self .count + a .other .count; bounds = z }) (c .before .before .joined .ensures .0), c .before .before .joined .ensures .1)
 
 pub joined-spec : {M : Type 1} → statement M
 joined-spec =

@@ -1,4 +1,7 @@
 -- The fields are the definition's. Assumes nothing.
+use mathlib.Core.Path.{ap}
+use Rattle.aabb.specs.declared.bounds.Aabb.{Aabb}
+use Rattle.builder.specs.declared.bins.Bin.{Bin}
 use Rattle.builder.specs.Bins.{noBin}
 use borrow.Author.Needs.{needs}
 use Rattle.builder.proofs.bins.Bin.none.Statement.{statement}
@@ -9,7 +12,7 @@ nothing-requires c κs = search needs
 
 returns : tie.Need-returns
 unfolding noBin
-returns c = (cc, c .nothing .ensures .1)
+returns c = (ap {B = Bin} (λ (z : Aabb). record { count = 0; bounds = z }) (c .nothing .ensures .0), c .nothing .ensures .1)
 
 pub none-spec : {M : Type 1} → statement M
 none-spec =
