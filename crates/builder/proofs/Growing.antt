@@ -24,7 +24,7 @@ use Rattle.builder.specs.Fallback.{ahead, ordered, separated, settled}
 use Rattle.builder.specs.Layout.{Divided, Laid, boxPut, boxesOf, linkPut, linksOf}
 use Rattle.builder.specs.Partition.{Parted, parted, parts}
 use Rattle.builder.specs.Range.{centroidBox, nodeBox}
-use Rattle.builder.specs.Tree.{Grown, below, decision, fork, grow, grownAs, joined, leaf, leafOf}
+use Rattle.builder.specs.Tree.{Grown, below, decision, fork, grow, grownAs, joined, leaf, leafOf, most-nodes, most-triangles}
 use Rattle.builder.proofs.Linear.{linear-ahead}
 use Rattle.builder.proofs.Parting.{parted-at, parted-length}
 use Rattle.builder.proofs.Perm.{sorted-length}
@@ -163,6 +163,22 @@ mid m ids b q w a p xs k ew es ek =
       high = split-between m a p ids (omega arith) .1;
       len = split-length m a p ids;
     })
+
+-- ---- room for n triangles from first on, whose nodes are from next on, in boxes and links of so many numbers; and for each half of them
+abbrev pub Room : (first node next n boxes links : ℕ) → Type 0
+Room first node next n boxes links =
+    ((first + n ≤ most-triangles) × (node < next) × (next + 2 * (n - 1) ≤ most-nodes)) × (((next + 2 * (n - 1)) * 6 ≤ boxes) × ((next + 2 * (n - 1)) * 3 ≤ links))
+
+less-room : (first first′ node node′ next next′ n n′ boxes boxes′ links links′ : ℕ) → first′ + n′ ≤ first + n → node′ < next′ → next′ + 2 * (n′ - 1) ≤ next + 2 * (n - 1) → boxes′ ≡ boxes → links′ ≡ links → Room first node next n boxes links
+    → Room first′ node′ next′ n′ boxes′ links′
+less-room first first′ node node′ next next′ n n′ boxes boxes′ links links′ p o q eb el r = ((omega (arith, r .0 .0), o, omega (arith, r .0 .2)), (omega (arith, r .1 .0), omega (arith, r .1 .1)))
+
+pub left-room : (first node next n k m boxes boxes′ links links′ : ℕ) → 0 < k → k < n → m ≡ k - 0 → boxes′ ≡ boxes → links′ ≡ links → Room first node next n boxes links → Room first next (next + 2) m boxes′ links′
+left-room first node next n k m boxes boxes′ links links′ low high em eb el r = less-room first first node next next (next + 2) n m boxes boxes′ links links′ (omega arith) (omega arith) (omega arith) eb el r
+
+pub right-room : (first node next n k m then boxes boxes′ links links′ : ℕ) → 0 < k → k < n → m ≡ n - k → next + 2 ≤ then → then ≤ next + 2 + 2 * (k - 1) → boxes′ ≡ boxes → links′ ≡ links → Room first node next n boxes links
+    → Room (first + k) (next + 1) then m boxes′ links′
+right-room first node next n k m then boxes boxes′ links links′ low high em from to eb el r = less-room first (first + k) node (next + 1) next then n m boxes boxes′ links links′ (omega arith) (omega arith) (omega arith) eb el r
 
 -- ---- a list whose front was lent and came back as l: what is lent next, and what it is when that has come back as r
 module _ (xs l : List ℕ) (k : ℕ) (h : k ≤ length xs) (e : length l ≡ length (take (k - 0) xs)) where

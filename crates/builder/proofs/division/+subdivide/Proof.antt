@@ -8,7 +8,7 @@ use lib.Seq.{length-take-le}
 use lib.Ieee.{le}
 use borrow.Rule.Slice.PartMut.{midOf, postOf, putMid}
 use Rattle.builder.specs.Build.{room}
-use Rattle.builder.proofs.Growing.{Mid, both-halves, divided-both, divided-deep, divided-leaf, divided-left, halves-length, mid, second-half, then-room}
+use Rattle.builder.proofs.Growing.{Mid, both-halves, divided-both, divided-deep, divided-leaf, divided-left, halves-length, left-room, mid, right-room, second-half, then-room}
 use borrow.Author.Needs.{needs}
 use borrow.Fn.Kinds.{In}
 use borrow.Fn.PlainCycle.{Measures, is, falls, and}
@@ -129,13 +129,13 @@ subdivide-part-subdivide-end t c =
     let f = c .before .before .before .before .before .before .before .before .before .before .before .before .find-best-split in
     let d = c .before .before .before .before .before .before .before .before .before .before .decision .given in
     let q : Mid (a .index .now) (s .last .1 .0) (s .result) = mid (a .triangles .now) (a .index .now) (h .result .bounds) (h .result .centroids) (f .result) (d .0 .0) (d .0 .1 .0) (s .last .1 .0) (s .result) (f .ensures) (d .1) (s .ensures) in
-    omega arith
+    omega (arith, q)
 
 subdivide-add-subdivide : (t : ℕ) → subdivide-lts.Need-add-subdivide (calls t) (subdivide-at t) subdivide.Post
 subdivide-add-subdivide t c = omega (arith, c .before .before .before .before .before .before .before .before .before .before .before .before .before .before .before .before .before .before .before .before .before .before .before .before .before .before .before .pre .1 .0, c .before .before .before .before .before .before .before .before .before .before .before .before .before .before .before .before .before .before .before .before .before .before .before .before .before .before .before .pre .1 .1)
 
 subdivide-sub-subdivide-2 : (t : ℕ) → subdivide-lts.Need-sub-subdivide-2 (calls t) (subdivide-at t) subdivide.Post
-subdivide-sub-subdivide-2 t c = search needs
+subdivide-sub-subdivide-2 t c = omega (arith, c .before .before .before .before .before .before .before .before .before .before .before .if1 .left)
 
 subdivide-subdivide-requires : (t : ℕ) → subdivide-lts.Need-subdivide-requires (calls t) (subdivide-at t) subdivide.Post
 subdivide-subdivide-requires t c κs =
@@ -145,13 +145,8 @@ subdivide-subdivide-requires t c κs =
     let f = c .before .before .before .before .before .before .before .before .before .before .before .before .before .before .before .find-best-split in
     let d = c .before .before .before .before .before .before .before .before .before .before .before .before .before .decision .given in
     let q : Mid (a .index .now) (s .last .1 .0) (s .result) = mid (a .triangles .now) (a .index .now) (h .result .bounds) (h .result .centroids) (f .result) (d .0 .0) (d .0 .1 .0) (s .last .1 .0) (s .result) (f .ensures) (d .1) (s .ensures) in
-    let part = length-take-le (s .result - 0) (s .last .1 .0) (omega arith) in (
-      omega (arith, c .before .before .before .before .before .before .before .before .before .before .before .before .before .before .before .before .before .before .before .before .before .before .before .before .before .before .before .pre .0, c .before .before .before .before .before .before .before .before .before .before .before .if1 .left),
-      (
-        (omega (arith, part, c .before .before .before .before .before .before .before .before .before .before .before .before .before .before .before .before .before .before .before .before .before .before .before .before .before .before .before .pre .1 .0, c .before .before .before .before .before .before .before .before .before .before .before .before .before .before .before .before .before .before .before .before .before .before .before .before .before .before .before .pre .1 .1), omega arith, omega (arith, part, c .before .before .before .before .before .before .before .before .before .before .before .before .before .before .before .before .before .before .before .before .before .before .before .before .before .before .before .pre .1 .0, c .before .before .before .before .before .before .before .before .before .before .before .before .before .before .before .before .before .before .before .before .before .before .before .before .before .before .before .pre .1 .1)),
-        (omega (arith, part, c .before .before .before .before .before .before .before .before .before .before .before .before .before .before .before .before .before .before .before .before .before .before .before .before .before .before .before .pre .1 .0, c .before .before .before .before .before .before .before .before .before .before .before .before .before .before .before .before .before .before .before .before .before .before .before .before .before .before .before .pre .1 .1, c .before .before .before .before .before .before .before .before .before .before .before .before .before .before .before .before .before .before .before .put-box .kept .0), omega (arith, part, c .before .before .before .before .before .before .before .before .before .before .before .before .before .before .before .before .before .before .before .before .before .before .before .before .before .before .before .pre .1 .0, c .before .before .before .before .before .before .before .before .before .before .before .before .before .before .before .before .before .before .before .before .before .before .before .before .before .before .before .pre .1 .1, c .before .before .before .before .before .put-link2 .kept .0)),
-      ),
-    )
+    let part = length-take-le (s .result - 0) (s .last .1 .0) (omega (arith, q)) in
+    (omega (arith, c .before .before .before .before .before .before .before .before .before .before .before .before .before .before .before .before .before .before .before .before .before .before .before .before .before .before .before .pre .0, c .before .before .before .before .before .before .before .before .before .before .before .if1 .left), left-room (a .first) (a .node) (a .next) (length (a .index .now)) (s .result) _ (length (a .boxes .now)) _ (length (a .links .now)) _ (q .low) (q .high) part (c .before .before .before .before .before .before .before .before .before .before .before .before .before .before .before .before .before .before .before .put-box .kept .0) (c .before .before .before .before .before .put-link2 .kept .0) (c .before .before .before .before .before .before .before .before .before .before .before .before .before .before .before .before .before .before .before .before .before .before .before .before .before .before .before .pre .1))
 
 subdivide-enum-known-one : (t : ℕ) → subdivide-lts.Need-enum-known-one (calls t) (subdivide-at t) subdivide.Post
 subdivide-enum-known-one t c = search needs
@@ -160,13 +155,13 @@ subdivide-enum-told-2 : (t : ℕ) → subdivide-lts.Need-enum-told-2 (calls t) (
 subdivide-enum-told-2 t c = search needs
 
 subdivide-same-length-6 : (t : ℕ) → subdivide-lts.Need-same-length-6 (calls t) (subdivide-at t) subdivide.Post
-subdivide-same-length-6 t c = search needs
+subdivide-same-length-6 t c = omega (arith, c .before .before .before .before .before .before .before .index2, c .before .before .before .before .before .before .before .before .before .before .before .before .before .before .before .before .before .before .separate .kept)
 
 subdivide-same-length-7 : (t : ℕ) → subdivide-lts.Need-same-length-7 (calls t) (subdivide-at t) subdivide.Post
-subdivide-same-length-7 t c = search needs
+subdivide-same-length-7 t c = c .before .before .before .before .before .before .before .before .subdivide .kept .1 .1 .0 ∙ c .before .before .before .before .before .before .before .before .before .before .before .before .before .before .before .before .before .before .before .before .before .before .before .before .before .before .before .before .put-box .kept .0
 
 subdivide-same-length-8 : (t : ℕ) → subdivide-lts.Need-same-length-8 (calls t) (subdivide-at t) subdivide.Post
-subdivide-same-length-8 t c = search needs
+subdivide-same-length-8 t c = c .before .before .before .before .before .before .before .before .subdivide .kept .1 .1 .1 .0 ∙ c .before .before .before .before .before .before .before .before .before .before .before .before .before .before .put-link2 .kept .0
 
 subdivide-returns-3 : (t : ℕ) → subdivide-lts.Need-returns-3 (calls t) (subdivide-at t) subdivide.Post
 subdivide-returns-3 t c =
@@ -188,7 +183,7 @@ subdivide-mul-subdivide t c =
     let f = c .before .before .before .before .before .before .before .before .before .before .before .before .before .before .before .before .before .before .before .before .before .before .before .before .before .find-best-split in
     let d = c .before .before .before .before .before .before .before .before .before .before .before .before .before .before .before .before .before .before .before .before .before .before .before .decision .given in
     let q : Mid (a .index .now) (s .last .1 .0) (s .result) = mid (a .triangles .now) (a .index .now) (h .result .bounds) (h .result .centroids) (f .result) (d .0 .0) (d .0 .1 .0) (s .last .1 .0) (s .result) (f .ensures) (d .1) (s .ensures) in
-    omega (arith, c .before .before .before .before .before .before .before .before .before .before .before .before .before .before .before .before .before .before .before .before .before .before .before .before .before .before .before .before .before .before .before .before .before .before .before .before .before .pre .1 .0, c .before .before .before .before .before .before .before .before .before .before .before .before .before .before .before .before .before .before .before .before .before .before .before .before .before .before .before .before .before .before .before .before .before .before .before .before .before .pre .1 .1)
+    omega (arith, q, c .before .before .before .before .before .before .before .before .before .before .before .before .before .before .before .before .before .before .before .before .before .before .before .before .before .before .before .before .before .before .before .before .before .before .before .before .before .pre .1 .0, c .before .before .before .before .before .before .before .before .before .before .before .before .before .before .before .before .before .before .before .before .before .before .before .before .before .before .before .before .before .before .before .before .before .before .before .before .before .pre .1 .1)
 
 subdivide-sub-subdivide-3 : (t : ℕ) → subdivide-lts.Need-sub-subdivide-3 (calls t) (subdivide-at t) subdivide.Post
 subdivide-sub-subdivide-3 t c =
@@ -198,7 +193,7 @@ subdivide-sub-subdivide-3 t c =
     let f = c .before .before .before .before .before .before .before .before .before .before .before .before .before .before .before .before .before .before .before .before .before .before .before .before .before .find-best-split in
     let d = c .before .before .before .before .before .before .before .before .before .before .before .before .before .before .before .before .before .before .before .before .before .before .before .decision .given in
     let q : Mid (a .index .now) (s .last .1 .0) (s .result) = mid (a .triangles .now) (a .index .now) (h .result .bounds) (h .result .centroids) (f .result) (d .0 .0) (d .0 .1 .0) (s .last .1 .0) (s .result) (f .ensures) (d .1) (s .ensures) in
-    let le : s .result ≤ length (s .last .1 .0) = omega arith in
+    let le : s .result ≤ length (s .last .1 .0) = omega (arith, q) in
     omega (arith, halves-length (s .last .1 .0) (c .before .before .before .before .before .before .before .before .before .subdivide .last .1 .0) (s .result) le (c .before .before .before .before .before .before .before .before .before .subdivide .kept .1 .0))
 
 subdivide-part-subdivide-start-2 : (t : ℕ) → subdivide-lts.Need-part-subdivide-start-2 (calls t) (subdivide-at t) subdivide.Post
@@ -209,7 +204,7 @@ subdivide-part-subdivide-start-2 t c =
     let f = c .before .before .before .before .before .before .before .before .before .before .before .before .before .before .before .before .before .before .before .before .before .before .before .before .before .find-best-split in
     let d = c .before .before .before .before .before .before .before .before .before .before .before .before .before .before .before .before .before .before .before .before .before .before .before .decision .given in
     let q : Mid (a .index .now) (s .last .1 .0) (s .result) = mid (a .triangles .now) (a .index .now) (h .result .bounds) (h .result .centroids) (f .result) (d .0 .0) (d .0 .1 .0) (s .last .1 .0) (s .result) (f .ensures) (d .1) (s .ensures) in
-    let le : s .result ≤ length (s .last .1 .0) = omega arith in
+    let le : s .result ≤ length (s .last .1 .0) = omega (arith, q) in
     omega (arith, halves-length (s .last .1 .0) (c .before .before .before .before .before .before .before .before .before .subdivide .last .1 .0) (s .result) le (c .before .before .before .before .before .before .before .before .before .subdivide .kept .1 .0))
 
 subdivide-part-subdivide-end-2 : (t : ℕ) → subdivide-lts.Need-part-subdivide-end-2 (calls t) (subdivide-at t) subdivide.Post
@@ -226,10 +221,10 @@ subdivide-add-subdivide-3 t c =
     let f = c .before .before .before .before .before .before .before .before .before .before .before .before .before .before .before .before .before .before .before .before .before .before .before .before .before .before .before .before .find-best-split in
     let d = c .before .before .before .before .before .before .before .before .before .before .before .before .before .before .before .before .before .before .before .before .before .before .before .before .before .before .decision .given in
     let q : Mid (a .index .now) (s .last .1 .0) (s .result) = mid (a .triangles .now) (a .index .now) (h .result .bounds) (h .result .centroids) (f .result) (d .0 .0) (d .0 .1 .0) (s .last .1 .0) (s .result) (f .ensures) (d .1) (s .ensures) in
-    omega (arith, c .before .before .before .before .before .before .before .before .before .before .before .before .before .before .before .before .before .before .before .before .before .before .before .before .before .before .before .before .before .before .before .before .before .before .before .before .before .before .before .before .pre .1 .0, c .before .before .before .before .before .before .before .before .before .before .before .before .before .before .before .before .before .before .before .before .before .before .before .before .before .before .before .before .before .before .before .before .before .before .before .before .before .before .before .before .pre .1 .1)
+    omega (arith, q, c .before .before .before .before .before .before .before .before .before .before .before .before .before .before .before .before .before .before .before .before .before .before .before .before .before .before .before .before .before .before .before .before .before .before .before .before .before .before .before .before .pre .1 .0, c .before .before .before .before .before .before .before .before .before .before .before .before .before .before .before .before .before .before .before .before .before .before .before .before .before .before .before .before .before .before .before .before .before .before .before .before .before .before .before .before .pre .1 .1)
 
 subdivide-sub-subdivide-4 : (t : ℕ) → subdivide-lts.Need-sub-subdivide-4 (calls t) (subdivide-at t) subdivide.Post
-subdivide-sub-subdivide-4 t c = search needs
+subdivide-sub-subdivide-4 t c = omega (arith, c .before .before .before .before .before .before .before .before .before .before .before .before .before .before .before .before .before .before .before .before .before .before .before .before .if1 .left)
 
 subdivide-subdivide-requires-2 : (t : ℕ) → subdivide-lts.Need-subdivide-requires-2 (calls t) (subdivide-at t) subdivide.Post
 subdivide-subdivide-requires-2 t c κs =
@@ -239,28 +234,23 @@ subdivide-subdivide-requires-2 t c κs =
     let f = c .before .before .before .before .before .before .before .before .before .before .before .before .before .before .before .before .before .before .before .before .before .before .before .before .before .before .before .before .find-best-split in
     let d = c .before .before .before .before .before .before .before .before .before .before .before .before .before .before .before .before .before .before .before .before .before .before .before .before .before .before .decision .given in
     let q : Mid (a .index .now) (s .last .1 .0) (s .result) = mid (a .triangles .now) (a .index .now) (h .result .bounds) (h .result .centroids) (f .result) (d .0 .0) (d .0 .1 .0) (s .last .1 .0) (s .result) (f .ensures) (d .1) (s .ensures) in
-    let le : s .result ≤ length (s .last .1 .0) = omega arith in
+    let le : s .result ≤ length (s .last .1 .0) = omega (arith, q) in
     let b = c .before .before .before .before .before .before .before .before .before .before .before .before .before .before .before .before .before .before .before .before .before .before .before .before .before .before .before .before .before .before .before .before .put-box in
     let k = c .before .before .before .before .before .before .before .before .before .before .before .before .before .before .before .before .before .before .put-link2 in
     let o = c .before .before .before .before .before .before .before .before .before .before .before .before .subdivide in
     let n = c .before .before .before .before .one .given in
-    let half = ap length (second-half (s .last .1 .0) (o .last .1 .0) (s .result) le (o .kept .1 .0)) ∙ length-drop (s .result) (s .last .1 .0) in
-    let room = then-room (a .triangles .now) (a .below) (a .first) (a .index .now) (h .result .bounds) (f .result) (a .node) (a .next) (a .boxes .now) (b .last .0) (a .links .now) (h .result .centroids) (h .ensures .0) (h .ensures .1) (f .ensures) (b .ensures) (d .0 .0) (d .0 .1 .0) (s .last .1 .0) (s .result) (k .last .0) (o .result) (o .last .1 .0) (o .last .1 .1 .0) (o .last .1 .1 .1 .0) (d .1) (s .ensures) (c .before .before .before .before .before .before .before .before .before .before .before .before .before .before .before .before .before .before .before .before .before .before .before .before .if1 .left) (k .ensures) (o .ensures) (n .0 .0) (n .1) le in (
-      omega (arith, c .before .before .before .before .before .before .before .before .before .before .before .before .before .before .before .before .before .before .before .before .before .before .before .before .before .before .before .before .before .before .before .before .before .before .before .before .before .before .before .before .pre .0, c .before .before .before .before .before .before .before .before .before .before .before .before .before .before .before .before .before .before .before .before .before .before .before .before .if1 .left),
-      (
-        (omega (arith, half, c .before .before .before .before .before .before .before .before .before .before .before .before .before .before .before .before .before .before .before .before .before .before .before .before .before .before .before .before .before .before .before .before .before .before .before .before .before .before .before .before .pre .1 .0, c .before .before .before .before .before .before .before .before .before .before .before .before .before .before .before .before .before .before .before .before .before .before .before .before .before .before .before .before .before .before .before .before .before .before .before .before .before .before .before .before .pre .1 .1), omega arith, omega (arith, half, c .before .before .before .before .before .before .before .before .before .before .before .before .before .before .before .before .before .before .before .before .before .before .before .before .before .before .before .before .before .before .before .before .before .before .before .before .before .before .before .before .pre .1 .0, c .before .before .before .before .before .before .before .before .before .before .before .before .before .before .before .before .before .before .before .before .before .before .before .before .before .before .before .before .before .before .before .before .before .before .before .before .before .before .before .before .pre .1 .1)),
-        (omega (arith, half, c .before .before .before .before .before .before .before .before .before .before .before .before .before .before .before .before .before .before .before .before .before .before .before .before .before .before .before .before .before .before .before .before .before .before .before .before .before .before .before .before .pre .1 .0, c .before .before .before .before .before .before .before .before .before .before .before .before .before .before .before .before .before .before .before .before .before .before .before .before .before .before .before .before .before .before .before .before .before .before .before .before .before .before .before .before .pre .1 .1, b .kept .0, o .kept .1 .1 .0), omega (arith, half, c .before .before .before .before .before .before .before .before .before .before .before .before .before .before .before .before .before .before .before .before .before .before .before .before .before .before .before .before .before .before .before .before .before .before .before .before .before .before .before .before .pre .1 .0, c .before .before .before .before .before .before .before .before .before .before .before .before .before .before .before .before .before .before .before .before .before .before .before .before .before .before .before .before .before .before .before .before .before .before .before .before .before .before .before .before .pre .1 .1, k .kept .0, o .kept .1 .1 .1 .0)),
-      ),
-    )
+    let half = ap length (second-half (s .last .1 .0) (o .last .1 .0) (s .result) le (o .kept .1 .0)) ∙ length-drop (s .result) (s .last .1 .0) ∙ ap (λ (z : ℕ). z - s .result) (q .len) in
+    let room = then-room (a .triangles .now) (a .below) (a .first) (a .index .now) (h .result .bounds) (f .result) (a .node) (a .next) (a .boxes .now) (b .last .0) (a .links .now) (h .result .centroids) (h .ensures .0) (h .ensures .1) (f .ensures) (b .ensures) (d .0 .0) (d .0 .1 .0) (s .last .1 .0) (s .result) (k .last .0) (o .result) (o .last .1 .0) (o .last .1 .1 .0) (o .last .1 .1 .1 .0) (d .1) (s .ensures) (c .before .before .before .before .before .before .before .before .before .before .before .before .before .before .before .before .before .before .before .before .before .before .before .before .if1 .left) (k .ensures) (o .ensures) (n .0 .0) (n .1) le in
+    (omega (arith, c .before .before .before .before .before .before .before .before .before .before .before .before .before .before .before .before .before .before .before .before .before .before .before .before .before .before .before .before .before .before .before .before .before .before .before .before .before .before .before .before .pre .0, c .before .before .before .before .before .before .before .before .before .before .before .before .before .before .before .before .before .before .before .before .before .before .before .before .if1 .left), right-room (a .first) (a .node) (a .next) (length (a .index .now)) (s .result) _ (n .0 .0) (length (a .boxes .now)) _ (length (a .links .now)) _ (q .low) (q .high) half (room .0) (room .1) (o .kept .1 .1 .0 ∙ b .kept .0) (o .kept .1 .1 .1 .0 ∙ k .kept .0) (c .before .before .before .before .before .before .before .before .before .before .before .before .before .before .before .before .before .before .before .before .before .before .before .before .before .before .before .before .before .before .before .before .before .before .before .before .before .before .before .before .pre .1))
 
 subdivide-same-length-9 : (t : ℕ) → subdivide-lts.Need-same-length-9 (calls t) (subdivide-at t) subdivide.Post
-subdivide-same-length-9 t c = search needs
+subdivide-same-length-9 t c = omega (arith, c .before .before .before .before .before .index3, c .before .before .before .before .before .before .before .before .before .before .before .before .before .before .before .before .before .before .index2, c .before .before .before .before .before .before .before .before .before .before .before .before .before .before .before .before .before .before .before .before .before .before .before .before .before .before .before .before .before .separate .kept)
 
 subdivide-same-length-10 : (t : ℕ) → subdivide-lts.Need-same-length-10 (calls t) (subdivide-at t) subdivide.Post
 subdivide-same-length-10 t c = c .before .before .before .before .before .before .subdivide2 .kept .1 .1 .0 ∙ c .before .before .before .before .before .before .before .before .before .before .before .before .before .before .before .before .before .before .before .subdivide .kept .1 .1 .0 ∙ c .before .before .before .before .before .before .before .before .before .before .before .before .before .before .before .before .before .before .before .before .before .before .before .before .before .before .before .before .before .before .before .before .before .before .before .before .before .before .before .put-box .kept .0
 
 subdivide-same-length-11 : (t : ℕ) → subdivide-lts.Need-same-length-11 (calls t) (subdivide-at t) subdivide.Post
-subdivide-same-length-11 t c = search needs
+subdivide-same-length-11 t c = c .before .before .before .before .before .before .subdivide2 .kept .1 .1 .1 .0 ∙ c .before .before .before .before .before .before .before .before .before .before .before .before .before .before .before .before .before .before .before .subdivide .kept .1 .1 .1 .0 ∙ c .before .before .before .before .before .before .before .before .before .before .before .before .before .before .before .before .before .before .before .before .before .before .before .before .before .put-link2 .kept .0
 
 subdivide-returns-4 : (t : ℕ) → subdivide-lts.Need-returns-4 (calls t) (subdivide-at t) subdivide.Post
 subdivide-returns-4 t c =
@@ -270,7 +260,7 @@ subdivide-returns-4 t c =
     let f = c .before .before .before .before .before .before .before .before .before .before .before .before .before .before .before .before .before .before .before .before .before .before .before .before .before .before .before .before .before .before .before .before .before .before .before .find-best-split in
     let d = c .before .before .before .before .before .before .before .before .before .before .before .before .before .before .before .before .before .before .before .before .before .before .before .before .before .before .before .before .before .before .before .before .before .decision .given in
     let q : Mid (a .index .now) (s .last .1 .0) (s .result) = mid (a .triangles .now) (a .index .now) (h .result .bounds) (h .result .centroids) (f .result) (d .0 .0) (d .0 .1 .0) (s .last .1 .0) (s .result) (f .ensures) (d .1) (s .ensures) in
-    let le : s .result ≤ length (s .last .1 .0) = omega arith in
+    let le : s .result ≤ length (s .last .1 .0) = omega (arith, q) in
     let b = c .before .before .before .before .before .before .before .before .before .before .before .before .before .before .before .before .before .before .before .before .before .before .before .before .before .before .before .before .before .before .before .before .before .before .before .before .before .before .before .put-box in
     let k = c .before .before .before .before .before .before .before .before .before .before .before .before .before .before .before .before .before .before .before .before .before .before .before .before .before .put-link2 in
     let o = c .before .before .before .before .before .before .before .before .before .before .before .before .before .before .before .before .before .before .before .subdivide in
