@@ -123,6 +123,23 @@ set-clear bs k x f p j h = ⊎-elim (λ e. here e) (λ n. rw (getD-set-other bs 
     here : j ≡ k → T (real (getD (set bs k x) j nan))
     here e = rw (e, getD-set-same bs k x nan (rw e at long)) p
 
+-- ---- the places of a box, while its numbers are written one after the other
+module _ (bs : List Float) (k : ℕ) (h : k * 6 + 6 ≤ length bs) where
+  pub in₁ : (r₁ : Float) → k * 6 + 1 < length (set bs (k * 6) r₁)
+  in₁ r₁ = simp length-set (omega arith)
+
+  pub in₂ : (r₁ r₂ : Float) → k * 6 + 2 < length (set (set bs (k * 6) r₁) (k * 6 + 1) r₂)
+  in₂ r₁ r₂ = simp length-set (omega arith)
+
+  pub in₃ : (r₁ r₂ r₃ : Float) → k * 6 + 3 < length (set (set (set bs (k * 6) r₁) (k * 6 + 1) r₂) (k * 6 + 2) r₃)
+  in₃ r₁ r₂ r₃ = simp length-set (omega arith)
+
+  pub in₄ : (r₁ r₂ r₃ r₄ : Float) → k * 6 + 4 < length (set (set (set (set bs (k * 6) r₁) (k * 6 + 1) r₂) (k * 6 + 2) r₃) (k * 6 + 3) r₄)
+  in₄ r₁ r₂ r₃ r₄ = simp length-set (omega arith)
+
+  pub in₅ : (r₁ r₂ r₃ r₄ r₅ : Float) → k * 6 + 5 < length (set (set (set (set (set bs (k * 6) r₁) (k * 6 + 1) r₂) (k * 6 + 2) r₃) (k * 6 + 3) r₄) (k * 6 + 4) r₅)
+  in₅ r₁ r₂ r₃ r₄ r₅ = simp length-set (omega arith)
+
 -- ---- a box, grown in place: each number is picked by one comparison with the one that stands there
 module _ (bs : List Float) (k : ℕ) (r₁ r₂ r₃ r₄ r₅ r₆ : Float) where
   abbrev s₁ : List Float
@@ -142,6 +159,9 @@ module _ (bs : List Float) (k : ℕ) (r₁ r₂ r₃ r₄ r₅ r₆ : Float) whe
 
   abbrev s₆ : List Float
   s₆ = set s₅ (k * 6 + 5) r₆
+
+  pub grown-long : length s₆ ≡ length bs
+  grown-long = simp length-set
 
   after₁ : (p : ℕ) → k * 6 + 1 ≤ p → getD s₁ p nan ≡ getD bs p nan
   after₁ p h = getD-set-other bs (k * 6) p r₁ nan (λ e. omega arith)

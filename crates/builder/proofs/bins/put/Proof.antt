@@ -2,8 +2,8 @@
 use mathlib.Core.Path.{refl}
 use Prim.Native.Nat.{_+_, _*_, _≤_}
 use native.Mathlib.Omega.{arith}
-use lib.ListN.{length, length-set}
-use Rattle.builder.proofs.Lanes.{grown-boxes, grown-clear}
+use lib.ListN.{length}
+use Rattle.builder.proofs.Lanes.{grown-boxes, grown-clear, grown-long, in₁, in₂, in₃, in₄, in₅}
 use borrow.Author.Needs.{needs}
 use Rattle.builder.proofs.bins.put.Statement.{statement}
 use Rattle.builder.proofs.bins.put.Tie as tie
@@ -33,7 +33,9 @@ mul-lower-2 : tie.Need-mul-lower-2
 mul-lower-2 c = search needs
 
 slice-read-lower-2 : tie.Need-slice-read-lower-2
-slice-read-lower-2 c = let p = c .before .before .before .before .before .pre in simp length-set (omega (arith, p .0, p .1 .boxes-long))
+slice-read-lower-2 c =
+    let s = c .before .before .before .before .before in
+    in₁ (s .args .boxes .now) (s .args .k) (omega (arith, s .pre .0, s .pre .1 .boxes-long)) (c .before .lower .result)
 
 lower-requires-2 : tie.Need-lower-requires-2
 lower-requires-2 c κs = search needs
@@ -45,7 +47,9 @@ mul-boxes-2 : tie.Need-mul-boxes-2
 mul-boxes-2 c = search needs
 
 slice-write-boxes-2 : tie.Need-slice-write-boxes-2
-slice-write-boxes-2 c = let p = c .before .before .before .before .before .before .pre in simp length-set (omega (arith, p .0, p .1 .boxes-long))
+slice-write-boxes-2 c =
+    let s = c .before .before .before .before .before .before in
+    in₁ (s .args .boxes .now) (s .args .k) (omega (arith, s .pre .0, s .pre .1 .boxes-long)) (c .before .before .lower .result)
 
 add-lower-2 : tie.Need-add-lower-2
 add-lower-2 c = search needs
@@ -54,7 +58,9 @@ mul-lower-3 : tie.Need-mul-lower-3
 mul-lower-3 c = search needs
 
 slice-read-lower-3 : tie.Need-slice-read-lower-3
-slice-read-lower-3 c = let p = c .before .before .before .before .before .before .before .pre in simp length-set (omega (arith, p .0, p .1 .boxes-long))
+slice-read-lower-3 c =
+    let s = c .before .before .before .before .before .before .before in
+    in₂ (s .args .boxes .now) (s .args .k) (omega (arith, s .pre .0, s .pre .1 .boxes-long)) (c .before .before .before .lower .result) (c .before .lower2 .result)
 
 lower-requires-3 : tie.Need-lower-requires-3
 lower-requires-3 c κs = search needs
@@ -66,7 +72,9 @@ mul-boxes-3 : tie.Need-mul-boxes-3
 mul-boxes-3 c = search needs
 
 slice-write-boxes-3 : tie.Need-slice-write-boxes-3
-slice-write-boxes-3 c = let p = c .before .before .before .before .before .before .before .before .pre in simp length-set (omega (arith, p .0, p .1 .boxes-long))
+slice-write-boxes-3 c =
+    let s = c .before .before .before .before .before .before .before .before in
+    in₂ (s .args .boxes .now) (s .args .k) (omega (arith, s .pre .0, s .pre .1 .boxes-long)) (c .before .before .before .before .lower .result) (c .before .before .lower2 .result)
 
 add-higher : tie.Need-add-higher
 add-higher c = search needs
@@ -75,7 +83,9 @@ mul-higher : tie.Need-mul-higher
 mul-higher c = search needs
 
 slice-read-higher : tie.Need-slice-read-higher
-slice-read-higher c = let p = c .before .before .before .before .before .before .before .before .before .pre in simp length-set (omega (arith, p .0, p .1 .boxes-long))
+slice-read-higher c =
+    let s = c .before .before .before .before .before .before .before .before .before in
+    in₃ (s .args .boxes .now) (s .args .k) (omega (arith, s .pre .0, s .pre .1 .boxes-long)) (c .before .before .before .before .before .lower .result) (c .before .before .before .lower2 .result) (c .before .lower3 .result)
 
 higher-requires : tie.Need-higher-requires
 higher-requires c κs = search needs
@@ -87,7 +97,9 @@ mul-boxes-4 : tie.Need-mul-boxes-4
 mul-boxes-4 c = search needs
 
 slice-write-boxes-4 : tie.Need-slice-write-boxes-4
-slice-write-boxes-4 c = let p = c .before .before .before .before .before .before .before .before .before .before .pre in simp length-set (omega (arith, p .0, p .1 .boxes-long))
+slice-write-boxes-4 c =
+    let s = c .before .before .before .before .before .before .before .before .before .before in
+    in₃ (s .args .boxes .now) (s .args .k) (omega (arith, s .pre .0, s .pre .1 .boxes-long)) (c .before .before .before .before .before .before .lower .result) (c .before .before .before .before .lower2 .result) (c .before .before .lower3 .result)
 
 add-higher-2 : tie.Need-add-higher-2
 add-higher-2 c = search needs
@@ -96,7 +108,9 @@ mul-higher-2 : tie.Need-mul-higher-2
 mul-higher-2 c = search needs
 
 slice-read-higher-2 : tie.Need-slice-read-higher-2
-slice-read-higher-2 c = let p = c .before .before .before .before .before .before .before .before .before .before .before .pre in simp length-set (omega (arith, p .0, p .1 .boxes-long))
+slice-read-higher-2 c =
+    let s = c .before .before .before .before .before .before .before .before .before .before .before in
+    in₄ (s .args .boxes .now) (s .args .k) (omega (arith, s .pre .0, s .pre .1 .boxes-long)) (c .before .before .before .before .before .before .before .lower .result) (c .before .before .before .before .before .lower2 .result) (c .before .before .before .lower3 .result) (c .before .higher .result)
 
 higher-requires-2 : tie.Need-higher-requires-2
 higher-requires-2 c κs = search needs
@@ -108,7 +122,9 @@ mul-boxes-5 : tie.Need-mul-boxes-5
 mul-boxes-5 c = search needs
 
 slice-write-boxes-5 : tie.Need-slice-write-boxes-5
-slice-write-boxes-5 c = let p = c .before .before .before .before .before .before .before .before .before .before .before .before .pre in simp length-set (omega (arith, p .0, p .1 .boxes-long))
+slice-write-boxes-5 c =
+    let s = c .before .before .before .before .before .before .before .before .before .before .before .before in
+    in₄ (s .args .boxes .now) (s .args .k) (omega (arith, s .pre .0, s .pre .1 .boxes-long)) (c .before .before .before .before .before .before .before .before .lower .result) (c .before .before .before .before .before .before .lower2 .result) (c .before .before .before .before .lower3 .result) (c .before .before .higher .result)
 
 add-higher-3 : tie.Need-add-higher-3
 add-higher-3 c = search needs
@@ -117,7 +133,9 @@ mul-higher-3 : tie.Need-mul-higher-3
 mul-higher-3 c = search needs
 
 slice-read-higher-3 : tie.Need-slice-read-higher-3
-slice-read-higher-3 c = let p = c .before .before .before .before .before .before .before .before .before .before .before .before .before .pre in simp length-set (omega (arith, p .0, p .1 .boxes-long))
+slice-read-higher-3 c =
+    let s = c .before .before .before .before .before .before .before .before .before .before .before .before .before in
+    in₅ (s .args .boxes .now) (s .args .k) (omega (arith, s .pre .0, s .pre .1 .boxes-long)) (c .before .before .before .before .before .before .before .before .before .lower .result) (c .before .before .before .before .before .before .before .lower2 .result) (c .before .before .before .before .before .lower3 .result) (c .before .before .before .higher .result) (c .before .higher2 .result)
 
 higher-requires-3 : tie.Need-higher-requires-3
 higher-requires-3 c κs = search needs
@@ -129,7 +147,9 @@ mul-boxes-6 : tie.Need-mul-boxes-6
 mul-boxes-6 c = search needs
 
 slice-write-boxes-6 : tie.Need-slice-write-boxes-6
-slice-write-boxes-6 c = let p = c .before .before .before .before .before .before .before .before .before .before .before .before .before .before .pre in simp length-set (omega (arith, p .0, p .1 .boxes-long))
+slice-write-boxes-6 c =
+    let s = c .before .before .before .before .before .before .before .before .before .before .before .before .before .before in
+    in₅ (s .args .boxes .now) (s .args .k) (omega (arith, s .pre .0, s .pre .1 .boxes-long)) (c .before .before .before .before .before .before .before .before .before .before .lower .result) (c .before .before .before .before .before .before .before .before .lower2 .result) (c .before .before .before .before .before .before .lower3 .result) (c .before .before .before .before .higher .result) (c .before .before .higher2 .result)
 
 mul-counts : tie.Need-mul-counts
 mul-counts c = search needs
@@ -144,7 +164,7 @@ slice-write-counts : tie.Need-slice-write-counts
 slice-write-counts c = search needs
 
 same-length : tie.Need-same-length
-same-length c = simp length-set
+same-length c = let a = c .before .before .before .before .before .before .before .before .before .before .before .before .before .before .before .args in grown-long (a .boxes .now) (a .k) (c .before .before .before .before .before .before .before .before .before .before .before .lower .result) (c .before .before .before .before .before .before .before .before .before .lower2 .result) (c .before .before .before .before .before .before .before .lower3 .result) (c .before .before .before .before .before .higher .result) (c .before .before .before .higher2 .result) (c .before .higher3 .result)
 
 same-length-2 : tie.Need-same-length-2
 same-length-2 c = search needs
