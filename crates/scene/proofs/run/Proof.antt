@@ -40,7 +40,7 @@ sub-besides c = search needs
 cast-t24 : tie.Need-cast-t24 Inv-loop μ-loop
 cast-t24 c =
     let l = c .before .before .loop in
-    omega (arith, l .inv .1 (omega arith), all-below _ _ _ (l .pending) (l .a) (l .inv .0) (omega arith) .0, l .inv .0 .few)
+    omega (arith, l .inv .1 (c .before .loop-test .taken), all-below _ _ _ (l .pending) (l .a) (l .inv .0) (c .before .loop-test .taken) .0, l .inv .0 .few)
 
 -- what `visit` ensures, of the ray itself
 abbrev lists : tie.At-loop Inv-loop μ-loop → Lent
@@ -57,13 +57,13 @@ seen v =
 returns : tie.Need-returns Inv-loop μ-loop
 unfolding told
 returns c =
-    let l = c .before .before .loop in rw (l .inv .1 (omega arith)) (spent _ _ _ (l .pending) (l .a) (l .inv .0) (omega arith) (c .if1 .taken))
+    let l = c .before .before .loop in rw (l .inv .1 (c .before .loop-test .taken)) (spent _ _ _ (l .pending) (l .a) (l .inv .0) (c .before .loop-test .taken) (c .if1 .taken))
 
 visit-requires : tie.Need-visit-requires Inv-loop μ-loop
 visit-requires c κs =
     let L = c .before .before in
     let l = L .loop in
-    (rw (l .inv .1 (omega arith)) (ready _ _ _ (l .pending) (l .a) (l .inv .0) (omega arith) (c .if1 .left)), its-own _ _ (L .before .before .of .ensures))
+    (rw (l .inv .1 (c .before .loop-test .taken)) (ready _ _ _ (l .pending) (l .a) (l .inv .0) (c .before .loop-test .taken) (c .if1 .left)), its-own _ _ (L .before .before .of .ensures))
 
 enum-known-number : tie.Need-enum-known-number Inv-loop μ-loop
 enum-known-number c = search needs
@@ -83,7 +83,7 @@ dropped-requires : tie.Need-dropped-requires Inv-loop μ-loop
 dropped-requires c κs = search needs
 
 sub-last : tie.Need-sub-last Inv-loop μ-loop
-sub-last c = omega arith
+sub-last c = omega (arith, c .if2 .taken)
 
 mul-last : tie.Need-mul-last Inv-loop μ-loop
 mul-last c = omega arith

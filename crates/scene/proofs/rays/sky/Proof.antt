@@ -38,10 +38,10 @@ fill-requires c κs =
     ((e .before .if1 .left, e .if2 .left, m .misfit .ensures), (omega (arith, d .if3 .left), m .before .before .if4 .left, m .before .if5 .left))
 
 same-length : tie.Need-same-length
-same-length c = search needs
+same-length c = c .before .before .before .before .fill .kept .1 .1 .1 .1 .1 .1 .1 .0
 
 same-length-2 : tie.Need-same-length-2
-same-length-2 c = search needs
+same-length-2 c = c .before .before .before .before .fill .kept .1 .1 .1 .1 .1 .1 .1 .1 .0
 
 returns-6 : tie.Need-returns-6
 returns-6 c =
