@@ -53,20 +53,20 @@ enum-told c = search needs
 
 make-requires : tie.Need-make-requires
 make-requires c κs = (
-  omega (arith, room-is (length (c .before .before .before .before .before .before .before .before .before .before .before .before .before .before .before .before .args .triangles .now) / 12), c .before .before .before .before .before .before .before .before .room .ensures, c .before .before .before .before .before .before .before .before .before .before .before .if1 .left, c .before .before .before .before .before .before .before .before .before .before .if2 .left, c .before .before .before .before .before .before .before .before .before .if3 .left, c .before .before .before .before .before .before .before .if4 .left, c .before .before .before .before .before .before .if5 .left),
-  omega (arith, room-is (length (c .before .before .before .before .before .before .before .before .before .before .before .before .before .before .before .before .args .triangles .now) / 12), c .before .before .before .before .before .before .before .before .room .ensures, c .before .before .before .before .before .before .before .before .before .before .before .if1 .left, c .before .before .before .before .before .before .before .before .before .before .if2 .left, c .before .before .before .before .before .before .before .before .before .if3 .left, c .before .before .before .before .before .before .before .if4 .left, c .before .before .before .before .before .before .if5 .left),
-  omega (arith, room-is (length (c .before .before .before .before .before .before .before .before .before .before .before .before .before .before .before .before .args .triangles .now) / 12), c .before .before .before .before .before .before .before .before .room .ensures, c .before .before .before .before .before .before .before .before .before .before .before .if1 .left, c .before .before .before .before .before .before .before .before .before .before .if2 .left, c .before .before .before .before .before .before .before .before .before .if3 .left, c .before .before .before .before .before .before .before .if4 .left, c .before .before .before .before .before .before .if5 .left),
-  omega (arith, room-is (length (c .before .before .before .before .before .before .before .before .before .before .before .before .before .before .before .before .args .triangles .now) / 12), c .before .before .before .before .before .before .before .before .room .ensures, c .before .before .before .before .before .before .before .before .before .before .before .if1 .left, c .before .before .before .before .before .before .before .before .before .before .if2 .left, c .before .before .before .before .before .before .before .before .before .if3 .left, c .before .before .before .before .before .before .before .if4 .left, c .before .before .before .before .before .before .if5 .left),
+  c .before .before .before .before .before .before .before .before .before .before .if2 .left,
+  c .before .before .before .before .before .before .before .before .before .if3 .left,
+  omega (arith, room-is (length (c .before .before .before .before .before .before .before .before .before .before .before .before .before .before .before .before .args .triangles .now) / 12), c .before .before .before .before .before .before .before .before .room .ensures, c .before .before .before .before .before .before .before .if4 .left),
+  omega (arith, room-is (length (c .before .before .before .before .before .before .before .before .before .before .before .before .before .before .before .before .args .triangles .now) / 12), c .before .before .before .before .before .before .before .before .room .ensures, c .before .before .before .before .before .before .if5 .left),
 )
 
 same-length : tie.Need-same-length
-same-length c = search needs
+same-length c = c .before .before .before .before .before .before .make .kept .1 .0
 
 same-length-2 : tie.Need-same-length-2
-same-length-2 c = search needs
+same-length-2 c = c .before .before .before .before .before .before .make .kept .1 .1 .0
 
 same-length-3 : tie.Need-same-length-3
-same-length-3 c = search needs
+same-length-3 c = c .before .before .before .before .before .before .make .kept .1 .1 .1 .0
 
 returns-7 : tie.Need-returns-7
 returns-7 c =
