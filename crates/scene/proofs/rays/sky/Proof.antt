@@ -1,5 +1,6 @@
 -- Each return is a line of the table of refusals, or what `fill` leaves. Assumes nothing.
 use native.Mathlib.Omega.{arith}
+use Rattle.scene.specs.Lent.{lent}
 use Rattle.scene.proofs.Whole.{sky-1, sky-2, sky-14, sky-13, sky-13′, sky-filled}
 use borrow.Author.Needs.{needs}
 use Rattle.scene.proofs.rays.sky.Statement.{statement}
@@ -49,7 +50,8 @@ returns-6 c =
     let m = f .before .before .before in
     let d = m .before .before .before in
     let e = d .before in
-    sky-filled _ _ _ _ (e .before .if1 .left) (e .if2 .left) (d .if3 .left) (m .before .before .if4 .left) (m .before .if5 .left) _ _ (f .fill .ensures .0) (f .fill .ensures .1)
+    let a = c .before .before .before .before .before .before .before .before .before .before .before .before .before .before .before .before .before .before .before .before .args in
+    sky-filled (lent (a .triangles .now) (a .index .now) (a .boxes .now) (a .links .now)) (a .rays .now) (a .times .now) (a .told .now) (e .before .if1 .left) (e .if2 .left) (d .if3 .left) (m .before .before .if4 .left) (m .before .if5 .left) (f .fill .last .1 .1 .1 .1 .1 .1 .1 .0) (f .fill .last .1 .1 .1 .1 .1 .1 .1 .1 .0) (f .fill .ensures .0) (f .fill .ensures .1)
 
 pub sky-spec : {M : Type 1} → statement M
 sky-spec =
