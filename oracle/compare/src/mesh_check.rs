@@ -26,6 +26,7 @@ pub struct Case {
 pub struct Tally {
     pub meshes: u64,
     pub triangles: u64,
+    /// Meshes that answered 5 in rooms that suffice, and those that answered 6.
     pub refused: u64,
     pub refused_as_deep: u64,
     pub fallback: u64,
@@ -48,8 +49,9 @@ pub fn check(calls: &Calls, case: &Case, tally: &mut Tally) -> Result<(), String
     tally.meshes += 1;
     tally.triangles += n as u64;
     rooms(calls, case)?;
-    let admitted = reading::triangles::admitted;
-    if (0..n).any(|i| !admitted(&reading::triangles::triangle(&case.mesh, i))) {
+    let admitted = |i| reading::triangles::admitted(&reading::triangles::triangle(&case.mesh, i));
+    if let Some(bad) = (0..n).find(|i| !admitted(*i)) {
+        refused(calls, case, bad)?;
         tally.refused += 1;
         return Ok(());
     }
@@ -114,6 +116,20 @@ fn rooms(calls: &Calls, case: &Case) -> Result<(), String> {
     reading_check::build(calls, &case.mesh, &lent)
         .map(|_| ())
         .map_err(|e| format!("{e}; rooms {lengths:?}"))
+}
+
+/// Builds into exact rooms, where no room is refused before the triangle: 5 at
+/// `bad`, the lowest that isn't admitted.
+fn refused(calls: &Calls, case: &Case, bad: usize) -> Result<(), String> {
+    let n = case.mesh.len() / 12;
+    let room = node_room(n);
+    let lent = Lists::rooms(&mut Random::new(case.seed ^ 2), n, 6 * room, 3 * room);
+    match reading_check::build(calls, &case.mesh, &lent)? {
+        (5, [at, 0]) if at == bad as u64 => Ok(()),
+        (number, told) => Err(format!(
+            "build answers {number} {told:?}, triangle {bad} is not admitted"
+        )),
+    }
 }
 
 /// Builds into rooms with some spare and compares them whole with the Rust's

@@ -5,8 +5,8 @@ use crate::calls::{all, same, Calls, READING};
 use crate::rays::Ray;
 use crate::Lists;
 
-/// `rooms` is what the buffers hold before.
-pub fn build(calls: &Calls, mesh: &[f64], rooms: &Lists) -> Result<u32, String> {
+/// `rooms` is what the buffers hold before. Answers the number and `told`.
+pub fn build(calls: &Calls, mesh: &[f64], rooms: &Lists) -> Result<(u32, [u64; 2]), String> {
     let run = |calls: &Calls| {
         let (mut lists, mut told) = (rooms.clone(), [u64::MAX; 2]);
         let number = (calls.build)(
@@ -30,7 +30,7 @@ pub fn build(calls: &Calls, mesh: &[f64], rooms: &Lists) -> Result<u32, String> 
             "build answers {number}, but its buffers are not the reading's"
         ));
     }
-    Ok(number)
+    Ok((number, told))
 }
 
 pub fn walk(calls: &Calls, mesh: &[f64], lists: &Lists, ray: &Ray) -> Result<u32, String> {

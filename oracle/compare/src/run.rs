@@ -241,13 +241,13 @@ fn every_hostile(calls: &Calls, plan: &Plan) -> u64 {
 }
 
 /// A build of whatever triangles a hostile case has, into rooms of any length.
-fn odd_build(calls: &Calls, r: &mut Random, case: &hostile::Hostile) -> Result<u32, String> {
+fn odd_build(calls: &Calls, r: &mut Random, case: &hostile::Hostile) -> Result<(), String> {
     let n = case.mesh.len() / 12;
     let room = node_room(n);
     let mut about = |exact: usize| (exact + r.below(4)).saturating_sub(r.below(3));
     let lengths = [about(n), about(6 * room), about(3 * room)];
     let rooms = Lists::rooms(r, lengths[0], lengths[1], lengths[2]);
-    reading_check::build(calls, &case.mesh, &rooms)
+    reading_check::build(calls, &case.mesh, &rooms).map(|_| ())
 }
 
 /// Many rays in one call, over built trees and hostile lists.
