@@ -18,14 +18,29 @@
  * Triangles are twelve numbers each: v0, v1, v2, normal. A node is six numbers
  * in `boxes` (min x, y, z, max x, y, z) and three in `links` (left child or
  * first entry, count, kind: 1 leaf, 0 internal). A ray is its origin and its
- * direction. The refusal numbers are those of documents 01 and 02:
+ * direction.
+ *
+ * Admitted: a triangle whose numbers are finite, the vertices' of magnitude at
+ * most 2^40 and the normal's at most 2; a ray whose numbers are finite, the
+ * origin's of magnitude at most 2^40 and the direction's at most 2 (a zero
+ * direction is admitted).
+ *
+ * A bad node has a kind other than 0 and 1; or a box that is not usable: six
+ * finite numbers of magnitude at most 2^40, each min at most its max, or else
+ * exactly the empty box (+inf three times, -inf three times); or it is internal
+ * and its count is not 0. Where the ray passes its box, also a leaf whose range
+ * ends beyond the index list, and an internal node with a child beyond the
+ * nodes (the right child is the one after the left).
+ *
+ * The refusal numbers are those of documents 01 and 02; at is 0 where none is
+ * named:
  *
  *    1  triangle slice not a multiple of 12 long
  *    2  more than 65,536 triangles                          at: how many
  *    3  index room shorter than the number of triangles
  *    4  node room too small in boxes or links               at: nodes needed
  *    5  a triangle is not admitted                          at: its number
- *    6  the tree has a node deeper than 63
+ *    6  the tree has a node deeper than 63 (the root is at 0)
  *    7  ray not admitted
  *    8  links empty, not a multiple of 3, over 131,071 nodes, or boxes not
  *       twice as long as links
@@ -52,26 +67,33 @@ extern "C" {
 /* Builds the tree of n triangles: the first n numbers of index and the first
  * 2L-1 nodes of boxes and links. Room for n index entries and 2n-1 nodes (1 for
  * none) is asked.
- * Answers 0 with told = node count 2L-1, leaf count L; or refusal 1 to 6 with
- * told = at, 0. Refusals 1 to 5 leave the buffers unchanged; 6 sets every
- * number of index, boxes and links to zero. Spare room stays otherwise. */
+ * Answers 0 with told = node count 2L-1, leaf count L; or refusal 1, 2, 3, 4, 5
+ * (the lowest triangle) or 6, the first in this order that applies, with told =
+ * at, 0. Refusals 1 to 5 leave index, boxes and links unchanged; 6 sets every
+ * number of them to zero, spare room too. Else spare room stays. */
 uint32_t pigeonmast_build(const double *triangles, size_t triangles_len,
                           uint32_t *index, size_t index_len,
                           double *boxes, size_t boxes_len,
                           uint32_t *links, size_t links_len,
                           uint64_t told[2]);
 
-/* Walks the tree with one ray (6 numbers). Hand over the 2L-1 nodes and n index
- * entries without spare room.
- * Answers PIGEONMAST_HIT with numbers = t, point, normal (7 numbers) and told =
- * triangle, front (1 or 0), box tests, triangle tests; 0 for a miss with told =
- * 0, 0, box tests, triangle tests; else the refusal with told = at, 0, 0, 0.
- * numbers stay unchanged unless it is a hit. */
+/* Walks the tree with one ray. Hand over the 2L-1 nodes and n index entries
+ * without spare room.
+ * Answers PIGEONMAST_HIT with numbers = t, point, normal and told = triangle,
+ * front (1 or 0), box tests, triangle tests; 0 for a miss with told = 0, 0, box
+ * tests, triangle tests; else the refusal with told = at, 0, 0, 0. numbers stay
+ * unchanged unless it is a hit. Of triangles met at numerically equal t the
+ * lowest number is the hit.
+ * Refused in this order: 1, 2, 7, 8, then step by step. A step takes the last
+ * pending node, the root first: 12, 9, the box test. If the ray passes, of a
+ * leaf 9 (its range) and for each entry 10, 5, the triangle test; of an
+ * internal node 9 (its children), 11, then its children are pending, the left
+ * one last. */
 uint32_t pigeonmast_walk(const double *triangles, size_t triangles_len,
                          const uint32_t *index, size_t index_len,
                          const double *boxes, size_t boxes_len,
                          const uint32_t *links, size_t links_len,
-                         const double *ray, double *numbers,
+                         const double ray[6], double numbers[7],
                          uint64_t told[4]);
 
 /* Walks the tree with every ray of rays (6 numbers each), as pigeonmast_walk
@@ -90,16 +112,15 @@ uint32_t pigeonmast_sky(const double *triangles, size_t triangles_len,
                         uint64_t *told, size_t told_len,
                         uint64_t at[1]);
 
-/* Where a ray (6 numbers) passes a box (6 numbers): 1 with times = enter, exit;
- * or 0 with times unchanged. Answers on every double. */
-uint32_t pigeonmast_slab(const double *bounds, const double *ray,
+/* Where a ray passes a box (min x, y, z, max x, y, z): 1 with times = enter,
+ * exit; or 0 with times unchanged. Answers on every double. */
+uint32_t pigeonmast_slab(const double bounds[6], const double ray[6],
                          double times[2]);
 
-/* Where a ray (6 numbers) meets a triangle (12 numbers): 2 for its front or 1
- * for its back with numbers = t, point, normal (7 numbers); or 0 with numbers
- * unchanged. Answers on every double. */
-uint32_t pigeonmast_triangle(const double *triangle, const double *ray,
-                             double *numbers);
+/* Where a ray meets a triangle: 2 for its front or 1 for its back with numbers =
+ * t, point, normal; or 0 with numbers unchanged. Answers on every double. */
+uint32_t pigeonmast_triangle(const double triangle[12], const double ray[6],
+                             double numbers[7]);
 
 #ifdef __cplusplus
 }
