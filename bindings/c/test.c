@@ -1,0 +1,72 @@
+/* The five calls from C: rows of document 01's probe table, a refusal of each
+ * call that has any, and what stays as it was (9). Prints what differs; exits 1. */
+#include "pigeonmast.h"
+#include <stdio.h>
+
+static int differ;
+
+/* Every number here is exact, so != is what is meant. */
+static void same(int line, const char *what, size_t k, double got, double wanted)
+{
+    if (got != wanted) {
+        printf("bindings/c/test.c:%d: %s [%zu] is %g, not %g\n", line, what, k, got, wanted);
+        differ = 1;
+    }
+}
+
+#define ANSWERS(call, number) same(__LINE__, #call, 0, call, number)
+#define HOLDS(list, ...)                                                            \
+    for (size_t k = 0; k < sizeof((double[]){__VA_ARGS__}) / sizeof(double); k++) \
+    same(__LINE__, #list, k, (double)(list)[k], ((double[]){__VA_ARGS__})[k])
+
+int main(void)
+{
+    const double t[12] = {0, 0, 0, 1, 0, 0, 0, 1, 0, 0, 0, 1}, unit[6] = {0, 0, 0, 1, 1, 1};
+    const double p2[6] = {0.25, 0.25, 1, 0, 0, -1}, p3[6] = {0.25, 0.25, -1, 0, 0, 1};
+    const double rays[12] = {17, 1, 1, 0, 0, -1, 25, 1, 1, 0, 0, -1}; /* P11, P12 */
+    double mesh[60] = {0}, boxes[54], numbers[7] = {9}, times[3] = {9, 9, 9};
+    uint32_t index[6] = {9, 9, 9, 9, 9, 9}, links[27];
+    uint64_t told[4], places[9] = {9, 9, 9, 9, 9, 9, 9, 9, 9}, at[1] = {9};
+
+    for (size_t k = 0; k < 5; k++) { /* P10 */
+        double *v = mesh + 12 * k, s = 16.0 * (double)k;
+        v[0] = v[6] = s, v[3] = s + 3, v[7] = 3, v[11] = 1;
+    }
+    ANSWERS(pigeonmast_build(mesh, 60, index, 4, boxes, 0, links, 0, told), 3);
+    ANSWERS(pigeonmast_build(mesh, 60, index, 5, boxes, 54, links, 26, told), 4);
+    HOLDS(told, 9, 0);
+    HOLDS(index, 9);
+    ANSWERS(pigeonmast_build(mesh, 60, index, 6, boxes, 54, links, 27, told), 0);
+    HOLDS(told, 3, 2);
+    HOLDS(index, 0, 1, 3, 4, 2, 9);
+    HOLDS(boxes, 0, 0, 0, 67, 3, 0, 0, 0, 0, 19, 3, 0, 32, 0, 0, 67, 3, 0);
+    HOLDS(links, 1, 0, 0, 0, 2, 1, 2, 3, 1);
+
+#define TREE mesh, 60, index, 5, boxes, 18, links, 9
+    ANSWERS(pigeonmast_walk(TREE, mesh + 12, numbers, told), 7); /* a direction of 19 */
+    HOLDS(told, 0, 0, 0, 0);
+    HOLDS(numbers, 9);
+    ANSWERS(pigeonmast_walk(TREE, rays, numbers, told), PIGEONMAST_HIT);
+    HOLDS(told, 1, 1, 3, 2);
+    HOLDS(numbers, 1, 17, 1, 0, 0, 0, 1);
+    ANSWERS(pigeonmast_sky(TREE, rays, 11, times, 0, places, 0, at), 14);
+    ANSWERS(pigeonmast_sky(TREE, rays, 12, times, 2, places, 7, at), 13);
+    HOLDS(times, 9, 9, 9);
+    ANSWERS(pigeonmast_sky(TREE, rays, 12, times, 3, places, 9, at), 0);
+    HOLDS(at, 0);
+    HOLDS(times, 1, 0, 9);
+    HOLDS(places, PIGEONMAST_HIT, 1, 3, 2, 0, 0, 3, 0, 9);
+
+    ANSWERS(pigeonmast_walk(t, 12, index, 1, unit, 6, links + 6, 3, p2, numbers, told), 9);
+    links[6] = 0, links[7] = 1;
+    ANSWERS(pigeonmast_walk(t, 12, index, 1, unit, 6, links + 6, 3, p2, numbers, told), PIGEONMAST_HIT);
+    HOLDS(told, 0, 1, 1, 1);
+    HOLDS(numbers, 1, 0.25, 0.25, 0, 0, 0, 1);
+    ANSWERS(pigeonmast_triangle(t, p3, numbers), 1);
+    HOLDS(numbers, 1, 0.25, 0.25, 0, 0, 0, -1);
+    ANSWERS(pigeonmast_triangle(t, rays, numbers), 0);
+    ANSWERS(pigeonmast_slab(unit, p2, times), 1);
+    HOLDS(times, 0, 1);
+    ANSWERS(pigeonmast_slab(unit, rays, times), 0);
+    return differ;
+}
