@@ -1,9 +1,11 @@
-//! The replay data can be read from front to back with nothing but the sizes in
-//! it, and holds what the reading answers.
+//! The stored replay data is what is written today, can be read from front to
+//! back with nothing but the sizes in it, and holds what the reading answers.
 
 use compare::calls::{all, equal, same, READING};
 use compare::replay::{write, MAGIC, NUMBER, WORD};
 use compare::Lists;
+
+const STORED: &[u8] = include_bytes!("../../../crates/replay/data/answers.bin");
 
 struct Reader<'a>(&'a [u8]);
 
@@ -78,6 +80,10 @@ fn walk(r: &mut Reader) -> u32 {
 #[test]
 fn reads_from_front_to_back() {
     let (file, answers) = write().unwrap();
+    assert!(
+        file == STORED,
+        "answers.bin is not what write_replay writes"
+    );
     let mut r = Reader(&file);
     assert_eq!(&r.bytes(), MAGIC);
     let cases = r.word();
