@@ -205,16 +205,23 @@ fn lengths(r: &mut Random) -> Hostile {
     case
 }
 
-/// The few that need much memory: at and over 65,536 triangles and 131,071
+/// The few that need much memory: at and just over 65,536 triangles and 131,071
 /// nodes. Every node of the full tree is met, so the last box test is the last
 /// that is allowed.
 pub fn large(r: &mut Random) -> Vec<Hostile> {
     let one = meshes::soup(r, 1);
-    let sizes = [(65_536, 131_071), (65_537, 3), (65_536, 131_073)];
+    let sizes = [
+        (65_536, 131_071),
+        (65_537, 3),
+        (65_536, 131_072),
+        (65_536, 131_073),
+    ];
     let make = |(triangles, nodes): (usize, usize)| {
         let opened = nodes as u32 / 2;
         let mut links: Vec<u32> = (0..opened).flat_map(|k| [2 * k + 1, 0, 0]).collect();
         links.extend((0..=opened).flat_map(|k| [k.min(65_535), 1, 1]));
+        // An even number of nodes has no full tree: the last leaf is left out.
+        links.truncate(3 * nodes);
         Hostile {
             mesh: one.repeat(triangles),
             lists: Lists {

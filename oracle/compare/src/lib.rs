@@ -17,6 +17,8 @@ pub mod sky_check;
 pub mod ties;
 pub mod world;
 
+use random::Random;
+
 /// The buffers of a tree, as lent.
 #[derive(Clone, Debug, Default)]
 pub struct Lists {
@@ -35,14 +37,16 @@ pub fn node_room(n: usize) -> usize {
 }
 
 impl Lists {
-    /// Rooms of these lengths, full of numbers that no tree has.
-    pub fn rooms(r: &mut random::Random, index: usize, boxes: usize, links: usize) -> Self {
-        let word = r.bits() as u32 | 1 << 31;
-        let number = f64::from_bits(r.bits());
+    /// Rooms of these lengths, each place with a word or number of its own, so
+    /// that places exchanged show too. No tree has the words.
+    pub fn rooms(r: &mut Random, index: usize, boxes: usize, links: usize) -> Self {
+        // What is drawn of `r` does not hang on the lengths.
+        let (mut words, mut numbers) = (Random::new(r.bits()), Random::new(r.bits()));
+        let mut word = || words.bits() as u32 | 1 << 31;
         Self {
-            index: vec![word; index],
-            boxes: vec![number; boxes],
-            links: vec![word; links],
+            index: (0..index).map(|_| word()).collect(),
+            boxes: numbers.numbers(boxes),
+            links: (0..links).map(|_| word()).collect(),
         }
     }
 

@@ -14,6 +14,11 @@ impl Random {
         z ^ (z >> 31)
     }
 
+    /// So many numbers of any pattern.
+    pub fn numbers(&mut self, n: usize) -> Vec<f64> {
+        (0..n).map(|_| f64::from_bits(self.bits())).collect()
+    }
+
     /// A whole number in 0..n; n is not 0.
     pub fn below(&mut self, n: usize) -> usize {
         (self.bits() % n as u64) as usize

@@ -40,10 +40,11 @@ fn with_rays(r: &mut Random, case: Hostile, most: usize) -> Sky {
         let length = (lent.len() + r.whole(1, 11)).saturating_sub(6);
         lent.resize(length, 0.5);
     }
-    let (number, word) = (f64::from_bits(r.bits()), r.bits());
+    // Each place holds another number, so that places exchanged show too.
+    let (mut numbers, mut words) = (Random::new(r.bits()), Random::new(r.bits()));
     Sky {
-        times: vec![number; room(r, n)],
-        told: vec![word; room(r, 4 * n)],
+        times: numbers.numbers(room(r, n)),
+        told: (0..room(r, 4 * n)).map(|_| words.bits()).collect(),
         rays: lent,
         case,
     }
