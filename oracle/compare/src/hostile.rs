@@ -1,6 +1,7 @@
 //! Lists that no builder made: looping trees, children beyond the nodes, bad
-//! kinds, boxes and entries, too many pending. The Rust panics or loops on
-//! these, so only the reading answers.
+//! kinds, boxes and entries, too many pending. The Rust has no refusals, so the
+//! reading judges; `foreign_check` holds the Rust to it where none is due, and at
+//! the 65th pending, where the Rust panics.
 
 use crate::random::Random;
 use crate::rays::{self, Ray};

@@ -187,7 +187,7 @@ fn large_meshes(calls: &Calls, plan: &Plan) -> u64 {
             found.add(mesh.len(), || format!("  {n} triangles: {why}"));
         }
     }
-    line("large", &tally);
+    line(&format!("large, seed {}", plan.seed ^ 2), &tally);
     found.end()
 }
 
@@ -227,10 +227,11 @@ fn every_hostile(calls: &Calls, plan: &Plan) -> u64 {
         println!("  {name}: answers {answers:?} (0 a miss, 100 a hit, else the refusal)");
     }
     std::panic::set_hook(hook);
+    println!("  large, seed {}:", plan.seed ^ 5);
     for case in hostile::large(&mut Random::new(plan.seed ^ 5)) {
         match reading_check::walk_writes_nothing(calls, &case.mesh, &case.lists, &case.ray) {
             Ok(number) => println!(
-                "  {} nodes, {} triangles: {number}",
+                "    {} nodes, {} triangles: {number}",
                 case.lists.links.len() / 3,
                 case.mesh.len() / 12
             ),

@@ -11,7 +11,8 @@ const USAGE: &str = "usage: differential quick|long [SEED], or differential read
 
 fn main() {
     let words: Vec<String> = std::env::args().skip(1).collect();
-    let (mut plan, calls): (Plan, _) = match words.first().map(String::as_str) {
+    let what = words.first().map(String::as_str);
+    let (mut plan, calls): (Plan, _) = match what {
         Some("quick") => (QUICK, &PIGEONMAST),
         Some("long") => (LONG, &PIGEONMAST),
         // The reading itself against the Rust: what all else leans on.
@@ -30,7 +31,10 @@ fn main() {
     plan.seed %= 1 << 60;
     let start = Instant::now();
     let mut differed = all(calls, &plan);
-    differed += safe_calls::check(plan.seed ^ 6, plan.meshes as u64 / 10);
+    // The crate's own types stand over Pigeonmast only.
+    if what != Some("reading") {
+        differed += safe_calls::check(plan.seed ^ 6, plan.meshes as u64 / 10);
+    }
     println!("took {} s", start.elapsed().as_secs());
     match differed {
         0 => println!("differences: none"),
