@@ -4,7 +4,7 @@
 //! of triangles, [`Bvh::intersect`] walks it with a ray, [`Aabb::intersect_ray`]
 //! and [`Triangle::intersect`] are its two tests. What differs: numbers that are
 //! not admitted, longer meshes and trees too deep are a [`Refusal`] with its
-//! number and place instead of a panic, and a walk tells how many boxes and
+//! number and `at` instead of a panic, and a walk tells how many boxes and
 //! triangles it tested.
 //!
 //! ```

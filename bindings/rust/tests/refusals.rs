@@ -10,7 +10,7 @@ fn down() -> Ray {
 }
 
 fn told(refusal: Refusal) -> (u32, u64) {
-    (refusal.number(), refusal.place())
+    (refusal.number(), refusal.at())
 }
 
 #[test]

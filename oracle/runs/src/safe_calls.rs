@@ -8,7 +8,7 @@ use pigeonmast::{raw, Bvh, Place, Ray, Walk};
 fn told(answer: Result<pigeonmast::Walk, pigeonmast::Refusal>) -> (u32, [u64; 4], [f64; 7]) {
     let walk = match answer {
         Ok(walk) => walk,
-        Err(refusal) => return (refusal.number(), [refusal.place(), 0, 0, 0], [0.0; 7]),
+        Err(refusal) => return (refusal.number(), [refusal.at(), 0, 0, 0], [0.0; 7]),
     };
     let counts = [walk.box_tests, walk.triangle_tests];
     match walk.hit {
@@ -37,7 +37,7 @@ fn one(seed: u64) -> Result<u64, String> {
     let (mut index, mut boxes, mut links) = (read.index, vec![0.0; 6 * room], vec![0; 3 * room]);
     let wanted = reading::builder::build(&mesh, &mut index, &mut boxes, &mut links);
     let bvh = match (Bvh::from_numbers(mesh.clone()), wanted) {
-        (Err(refusal), Err(w)) if (refusal.number(), refusal.place()) == (w.number, w.at) => {
+        (Err(refusal), Err(w)) if (refusal.number(), refusal.at()) == (w.number, w.at) => {
             return Ok(0)
         }
         (Ok(bvh), Ok(w)) if (bvh.node_count(), bvh.leaf_count()) == (w.nodes, w.leaves) => bvh,
