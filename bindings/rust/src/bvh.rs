@@ -153,22 +153,22 @@ impl Bvh {
         })
     }
 
-    /// Walks the tree with many rays (origin, direction) in one call: place k
-    /// is what [`Bvh::intersect`] tells of ray k, its refusal included. The whole
-    /// call is refused (1 or 2) only for triangles of [`Bvh::from_lists`].
+    /// Walks the tree with many rays in one call: place k is what
+    /// [`Bvh::intersect`] tells of ray k, its refusal included. The whole call is
+    /// refused (1 or 2) only for triangles of [`Bvh::from_lists`].
     ///
     /// ```
-    /// use pigeonmast::Bvh;
+    /// use pigeonmast::{Bvh, Ray, Vec3};
     /// let t = vec![0.0, 0.0, 0.0, 1.0, 0.0, 0.0, 0.0, 1.0, 0.0, 0.0, 0.0, 1.0];
     /// let bvh = Bvh::from_numbers(t)?;
-    /// let down = |x: f64| [x, 0.25, 1.0, 0.0, 0.0, -1.0];
+    /// let down = |x| Ray::new(Vec3::new(x, 0.25, 1.0), Vec3::new(0.0, 0.0, -1.0));
     /// let places = bvh.sky(&[down(0.25), down(f64::NAN), down(2.0)])?;
     /// assert_eq!(places[0]?.hit, Some((0, 1.0)));
     /// assert_eq!(places[1].unwrap_err().number(), 7);
     /// assert_eq!(places[2]?.hit, None);
     /// # Ok::<(), pigeonmast::Refusal>(())
     /// ```
-    pub fn sky(&self, rays: &[[f64; 6]]) -> Result<Vec<Result<Place, Refusal>>, Refusal> {
+    pub fn sky(&self, rays: &[Ray]) -> Result<Vec<Result<Place, Refusal>>, Refusal> {
         let (mut times, mut told) = (vec![0.0; rays.len()], vec![0; 4 * rays.len()]);
         let mut at = [0];
         let number = raw::sky(
@@ -176,7 +176,7 @@ impl Bvh {
             &self.index,
             &self.boxes,
             &self.links,
-            rays.as_flattened(),
+            Ray::all_numbers(rays),
             &mut times,
             &mut told,
             &mut at,

@@ -1,5 +1,8 @@
+use std::slice;
+
 /// A point or a direction.
 #[derive(Clone, Copy, Debug, Default, PartialEq)]
+#[repr(C)]
 pub struct Vec3 {
     /// Along x.
     pub x: f64,
@@ -30,7 +33,11 @@ impl From<Vec3> for [f64; 3] {
 }
 
 /// A ray. Its direction is taken as given: any length, zero too.
+///
+/// In memory it is the six numbers of [`Ray::numbers`], so that many can be lent
+/// where they stand.
 #[derive(Clone, Copy, Debug, PartialEq)]
+#[repr(C)]
 pub struct Ray {
     /// Where it starts. Admitted for a walk up to 2^40 along each axis.
     pub origin: Vec3,
@@ -50,5 +57,14 @@ impl Ray {
     pub fn numbers(&self) -> [f64; 6] {
         let (o, d) = (self.origin, self.direction);
         [o.x, o.y, o.z, d.x, d.y, d.z]
+    }
+
+    /// Many as they are lent: six numbers each.
+    pub(crate) fn all_numbers(rays: &[Self]) -> &[f64] {
+        const { assert!(size_of::<Self>() == size_of::<[f64; 6]>()) };
+        // SAFETY: with `repr(C)` a ray is its six f64 in the order of its fields,
+        // without padding and aligned as one of them; so the slice's memory is
+        // that of 6 * len f64, and it is borrowed as long.
+        unsafe { slice::from_raw_parts(rays.as_ptr().cast(), 6 * rays.len()) }
     }
 }

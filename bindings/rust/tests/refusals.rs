@@ -132,22 +132,24 @@ fn of_a_whole_sky() {
 fn of_a_ray_among_others() {
     let ray = down().numbers();
     let mut rays = ray.repeat(3);
+    // From twice as high: another t, were origin and direction exchanged.
+    rays[2] = 2.0;
     rays[6] = f64::NAN;
     rays[12] = 2.0;
     let (number, at, times, told) = sky(&T, &rays, 5, 14);
-    assert_eq!((number, at, times), (0, 0, vec![1.0, 0.0, 0.0, 9.0, 9.0]));
+    assert_eq!((number, at, times), (0, 0, vec![2.0, 0.0, 0.0, 9.0, 9.0]));
     let hit = u64::from(raw::HIT);
     assert_eq!(told, [hit, 0, 1, 1, 7, 0, 0, 0, 0, 0, 1, 0, 9, 9]);
     // The same by the tree's own call, and as the single walks say it.
     let bvh = Bvh::from_numbers(T.to_vec()).expect("T is admitted");
-    let lent: Vec<[f64; 6]> = rays
+    let lent: Vec<Ray> = rays
         .chunks_exact(6)
-        .map(|r| r.try_into().unwrap())
+        .map(|r| Ray::new([r[0], r[1], r[2]].into(), [r[3], r[4], r[5]].into()))
         .collect();
     let places = bvh.sky(&lent).expect("room is there");
-    for (place, [ox, oy, oz, dx, dy, dz]) in places.iter().zip(lent) {
-        let one = bvh.intersect(&Ray::new([ox, oy, oz].into(), [dx, dy, dz].into()));
-        match (place, one) {
+    assert_eq!(places.len(), 3);
+    for (place, ray) in places.iter().zip(&lent) {
+        match (place, bvh.intersect(ray)) {
             (Ok(place), Ok(walk)) => {
                 assert_eq!(place.hit, walk.hit.map(|h| (h.triangle, h.t)));
                 assert_eq!(place.box_tests, walk.box_tests);

@@ -63,7 +63,7 @@ fn one(seed: u64) -> Result<u64, String> {
         if got != (number, wanted_told, numbers) {
             return Err(format!("Bvh::intersect, ray {k}: {got:?}, the reading {number} {wanted_told:?} {numbers:?}"));
         }
-        lent_rays.push(ray);
+        lent_rays.push(lent);
         singles.push(bvh.intersect(&lent));
     }
     // The sky of the same rays, place by place.
