@@ -25,12 +25,13 @@
  * origin's of magnitude at most 2^40 and the direction's at most 2 (a zero
  * direction is admitted).
  *
- * A bad node has a kind other than 0 and 1; or a box that is not usable: six
- * finite numbers of magnitude at most 2^40, each min at most its max, or else
- * exactly the empty box (+inf three times, -inf three times); or it is internal
- * and its count is not 0. Where the ray passes its box, also a leaf whose range
- * ends beyond the index list, and an internal node with a child beyond the
- * nodes (the right child is the one after the left).
+ * Usable: a box of six finite numbers of magnitude at most 2^40, each min at
+ * most its max; or exactly the empty box (+inf three times, -inf three times).
+ *
+ * A bad node has a kind other than 0 and 1, a box that is not usable, or is
+ * internal with a count other than 0. Where the ray passes its box, a leaf whose
+ * range ends beyond the index list is bad too, and so is an internal node with a
+ * child beyond the nodes (the right child is the one after the left).
  *
  * The refusal numbers are those of documents 01 and 02; at is 0 where none is
  * named:
