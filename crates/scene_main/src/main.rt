@@ -1,8 +1,9 @@
 // Walks hand-made lists, good and hostile, and prints each answer: a hit with its numbers by their bits and counts, a miss with counts, or a
-// refusal with its number and place. What it prints is held to the file stdout beside it.
+// refusal with its number and place; and skies of rays, with every number of the answer room. What it prints is held to the file stdout beside it.
 use aabb::Ray;
 use aabb::Vec3;
 use scene::Answer;
+use scene::Filled;
 ghost use Prim.Native.Nat.{_≤_};
 
 fn main() {
@@ -14,6 +15,7 @@ fn main() {
     triangles();
     loops();
     ties();
+    skies();
 }
 
 // ---- printing
@@ -417,4 +419,89 @@ fn ties() {
     tie(b"tie, 1 first", 1, 0);
     tie(b"nearer second", 0, 2);
     tie(b"nearer first, farther not dropped", 2, 0);
+}
+
+// ---- skies: a hit, a ray that isn't admitted and a miss over the triangle T, with so many numbers of rays and of answer room, 9 before
+fn place(times: [f64; 4], told: [u64; 16], k: usize)
+    requires { ⌜ k ≤ 3 ⌝ }
+{
+    io::write_all(1, b",");
+    number(times[k]);
+    let at = 4 * k;
+    count(told[at]);
+    count(told[at + 1]);
+    count(told[at + 2]);
+    count(told[at + 3]);
+}
+
+fn sky(label: &[u8], numbers: usize, timed: usize, words: usize) {
+    let mesh = probe();
+    let index = [0u32];
+    let boxes = [0.0, 0.0, 0.0, 1.0, 1.0, 0.0];
+    let links = [0u32, 1, 1];
+    let nan = order::from_bits(0x7ff8_0000_0000_0000);
+    let rays = [
+        0.25,
+        0.25,
+        1.0,
+        0.0,
+        0.0,
+        -1.0,
+        nan,
+        0.25,
+        1.0,
+        0.0,
+        0.0,
+        -1.0,
+        2.0,
+        0.25,
+        1.0,
+        0.0,
+        0.0,
+        -1.0,
+    ];
+    let mut times = [9.0; 4];
+    let mut told = [9u64; 16];
+    if numbers <= 18 {
+        if timed <= 4 {
+            if words <= 16 {
+                io::write_all(1, label);
+                match scene::sky(
+                    &mesh,
+                    &index,
+                    &boxes,
+                    &links,
+                    &rays[0..numbers],
+                    &mut times[0..timed],
+                    &mut told[0..words],
+                ) {
+                    Filled::Places => {
+                        io::write_all(1, b": places");
+                    }
+                    Filled::Refused { number, at } => {
+                        io::write_all(1, b": refused");
+                        count(number as u64);
+                        io::write_all(1, b" at");
+                        count(at);
+                    }
+                }
+                place(times, told, 0);
+                place(times, told, 1);
+                place(times, told, 2);
+                place(times, told, 3);
+                io::write_all(1, b"\n");
+            }
+        }
+    }
+}
+
+fn skies() {
+    sky(b"three rays", 18, 4, 16);
+    sky(b"three rays, room that just suffices", 18, 3, 12);
+    sky(b"one ray", 6, 4, 16);
+    sky(b"no rays", 0, 0, 0);
+    sky(b"17 numbers of rays", 17, 4, 16);
+    sky(b"14 before 13", 17, 0, 0);
+    sky(b"two times", 18, 2, 16);
+    sky(b"11 words", 18, 4, 11);
 }
