@@ -127,10 +127,10 @@ module _ (s : Lent) (r : Ray) (n : ℕ) (p : Pending) (a : Tally) (G : Going s r
           down-less b f = let c : Counted (a .boxes + 1) (a .triangles + 2 ^ 32) b = rw f at bounds in c .tests
 
           -- its children take its place
-          pub open-room : (left right : ℕ) (b : Tally) → t ≡ Open left right b → (p .len - 1) + 2 ≤ most-pending
-          open-room left right b f = let c : Opens (nodeCount (s .links)) (p .len - 1) (a .boxes + 1) (a .triangles + 2 ^ 32) left right b = rw f at bounds in c .room
+          pub open-room : (left right : ℕ) (b : Tally) → t ≡ Open left right b → p .len < most-pending
+          open-room left right b f = let c : Opens (nodeCount (s .links)) (p .len - 1) (a .boxes + 1) (a .triangles + 2 ^ 32) left right b = rw f at bounds in omega (arith, c .room)
 
-          pub opens : (q : Pending) (left right : ℕ) (b : Tally) → t ≡ Open left right b → q .len ≡ (p .len - 1) + 2 → pending q ≡ left ∷ right ∷ rest → Going s r n q b
+          pub opens : (q : Pending) (left right : ℕ) (b : Tally) → t ≡ Open left right b → q .len ≡ p .len + 1 → pending q ≡ left ∷ right ∷ rest → Going s r n q b
           opens q left right b f l h =
               let c : Opens (nodeCount (s .links)) (p .len - 1) (a .boxes + 1) (a .triangles + 2 ^ 32) left right b = rw f at bounds in
               let w = G .whole in

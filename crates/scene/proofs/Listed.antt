@@ -15,13 +15,13 @@ top-set nodes i v (suc k) h = rw (getD-set-other nodes i k v 0 (omega arith), to
 put : (nodes : List ℕ) (k v : ℕ) → k < length nodes → top (set nodes k v) (k + 1) ≡ v ∷ top nodes k
 put nodes k v h = rw (add-one k) (rw (getD-set-same nodes k v 0 h, top-set nodes k v k (omega arith)))
 
--- right, then left
-pub put-both : (nodes : List ℕ) (k left right : ℕ) → k + 2 ≤ length nodes → top (set (set nodes k right) (k + 1) left) (k + 2) ≡ left ∷ right ∷ top nodes k
-put-both nodes k left right h =
-    let e : k + 2 ≡ (k + 1) + 1 = omega arith in
-    ap (λ (m : ℕ). top (set (set nodes k right) (k + 1) left) m) e
-    ∙ put (set nodes k right) (k + 1) left (simp length-set (omega arith))
-    ∙ ap (λ (l : List ℕ). left ∷ l) (put nodes k right (omega arith))
+-- right in the last one's place, then left
+pub put-both : (nodes : List ℕ) (len left right : ℕ) → 0 < len → len < length nodes → top (set (set nodes (len - 1) right) len left) (len + 1) ≡ left ∷ right ∷ top nodes (len - 1)
+put-both nodes len left right some room =
+    let e : len ≡ (len - 1) + 1 = omega arith in
+    put (set nodes (len - 1) right) len left (simp length-set room)
+    ∙ ap (λ (m : ℕ). left ∷ top (set nodes (len - 1) right) m) e
+    ∙ ap (λ (l : List ℕ). left ∷ l) (put nodes (len - 1) right (omega arith))
 
 pub length-top : (nodes : List ℕ) (k : ℕ) → length (top nodes k) ≡ k
 length-top nodes zero = refl
@@ -41,5 +41,5 @@ top-last nodes k v rest h e = ap (λ (l : List ℕ). getD l 0 0) (sym (taken nod
 pub root-last : (nodes : List ℕ) (len : ℕ) → len ≡ 1 → top nodes len ≡ 0 ∷ [] → getD nodes (len - 1) 0 ≡ 0
 root-last nodes len p e = top-last nodes len 0 [] (omega (arith, p)) e
 
-pub opened-last : (nodes : List ℕ) (len k left : ℕ) (rest : List ℕ) → len ≡ k + 2 → top nodes len ≡ left ∷ rest → getD nodes (len - 1) 0 ≡ left
+pub opened-last : (nodes : List ℕ) (len k left : ℕ) (rest : List ℕ) → len ≡ k + 1 → top nodes len ≡ left ∷ rest → getD nodes (len - 1) 0 ≡ left
 opened-last nodes len k left rest p e = top-last nodes len left rest (omega (arith, p)) e

@@ -95,14 +95,14 @@ fn run(triangles: &[f64], index: &[u32], boxes: &[f64], links: &[u32], ray: Ray)
             }
             Turn::Down(next) => {
                 a = next;
-                pending = pending.dropped(besides);
+                pending = pending.dropped();
                 if 0 < besides {
                     last = pending.nodes[besides - 1];
                 }
             }
             Turn::Open { left, right, tally } => {
                 a = tally;
-                pending = pending.opened(besides, left, right);
+                pending = pending.opened(left, right);
                 last = left;
             }
         }

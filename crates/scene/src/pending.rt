@@ -23,28 +23,29 @@ impl Pending {
     }
 
     // The last one is dropped: those that are pending besides are left.
-    pub fn dropped(self, besides: usize) -> Pending
-        ensures { λ r. ⌜ (r .len ≡ besides) × (pending r ≡ top (self .nodes) besides) ⌝ }
+    pub fn dropped(self) -> Pending
+        requires { ⌜ 0 < self .len ⌝ }
+        ensures { λ r. ⌜ (r .len ≡ self .len - 1) × (pending r ≡ top (self .nodes) (self .len - 1)) ⌝ }
     {
         let nodes = self.nodes;
         Pending {
             nodes,
-            len: besides,
+            len: self.len - 1,
         }
     }
 
     // The last one is opened: right, then left in its place, after those that are pending besides.
-    pub fn opened(self, besides: usize, left: u32, right: u32) -> Pending
-        requires { ⌜ besides + 2 ≤ most-pending ⌝ }
-        ensures { λ r. ⌜ (r .len ≡ besides + 2) × (pending r ≡ left ∷ right ∷ top (self .nodes) besides) ⌝ }
+    pub fn opened(self, left: u32, right: u32) -> Pending
+        requires { ⌜ (0 < self .len) × (self .len < most-pending) ⌝ }
+        ensures { λ r. ⌜ (r .len ≡ self .len + 1) × (pending r ≡ left ∷ right ∷ top (self .nodes) (self .len - 1)) ⌝ }
     {
         let mut nodes = self.nodes;
-        let last = besides + 1;
-        nodes[besides] = right;
-        nodes[last] = left;
+        let len = self.len;
+        nodes[len - 1] = right;
+        nodes[len] = left;
         Pending {
             nodes,
-            len: besides + 2,
+            len: len + 1,
         }
     }
 }

@@ -135,7 +135,7 @@ opened-requires c κs =
     let v = c .before .before .before in
     let L = v .before .before .before in
     let l = L .loop in
-    open-room _ _ _ (l .pending) (l .a) (l .inv .0) (v .before .before .loop-test .taken) (v .before .if1 .left) (v .visit .result) (seen v) (small L) _ _ _ (c .before .left .given .1)
+    (v .before .before .loop-test .taken, open-room _ _ _ (l .pending) (l .a) (l .inv .0) (v .before .before .loop-test .taken) (v .before .if1 .left) (v .visit .result) (seen v) (small L) _ _ _ (c .before .left .given .1))
 
 loop-less-3 : tie.Need-loop-less-3 Inv-loop μ-loop
 loop-less-3 c =

@@ -1,4 +1,4 @@
--- The two stores put right, then left after those that are pending besides. Assumes nothing.
+-- The two stores put right, then left in the last one's place. Assumes nothing.
 use mathlib.Core.Path.{_≡_, refl}
 use lib.ListN.{length}
 use Rattle.scene.proofs.Listed.{put-both}
@@ -7,8 +7,8 @@ use borrow.Author.Needs.{needs}
 use Rattle.scene.proofs.pending.Pending.opened.Statement.{statement}
 use Rattle.scene.proofs.pending.Pending.opened.Tie as tie
 
-add-last : tie.Need-add-last
-add-last c = search needs
+sub-nodes : tie.Need-sub-nodes
+sub-nodes c = search needs
 
 mul-nodes : tie.Need-mul-nodes
 mul-nodes c = search needs
@@ -26,9 +26,9 @@ add-t7 : tie.Need-add-t7
 add-t7 c = search needs
 
 returns : tie.Need-returns
-returns c = (refl, let A = c .before .args in put-both (A .self .nodes) (A .besides) (A .left) (A .right) (let h : length (A .self .nodes) ≡ 64 = search needs in omega arith))
+returns c = (refl, let A = c .before .args in put-both (A .self .nodes) (A .self .len) (A .left) (A .right) (c .before .pre .0) (let h : length (A .self .nodes) ≡ 64 = search needs in omega arith))
 
 pub opened-spec : {M : Type 1} → statement M
 opened-spec =
     tie.close
-    (tie.spec add-last mul-nodes array-write-nodes mul-nodes-2 array-write-nodes-2 add-t7 returns)
+    (tie.spec sub-nodes mul-nodes array-write-nodes mul-nodes-2 array-write-nodes-2 add-t7 returns)
