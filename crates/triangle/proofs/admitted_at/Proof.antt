@@ -9,42 +9,6 @@ use Rattle.triangle.proofs.Steps.{stands-within}
 use Rattle.triangle.proofs.admitted_at.Statement.{statement}
 use Rattle.triangle.proofs.admitted_at.Tie as tie
 
-mul-at : tie.Need-mul-at
-mul-at c = search needs
-
-three-requires : tie.Need-three-requires
-three-requires c κs = search needs
-
-within-requires : tie.Need-within-requires
-within-requires c κs = search needs
-
-add-three : tie.Need-add-three
-add-three c = search needs
-
-three-requires-2 : tie.Need-three-requires-2
-three-requires-2 c κs = search needs
-
-within-requires-2 : tie.Need-within-requires-2
-within-requires-2 c κs = search needs
-
-add-three-2 : tie.Need-add-three-2
-add-three-2 c = search needs
-
-three-requires-3 : tie.Need-three-requires-3
-three-requires-3 c κs = search needs
-
-within-requires-3 : tie.Need-within-requires-3
-within-requires-3 c κs = search needs
-
-add-three-3 : tie.Need-add-three-3
-add-three-3 c = search needs
-
-three-requires-4 : tie.Need-three-requires-4
-three-requires-4 c κs = search needs
-
-within-requires-4 : tie.Need-within-requires-4
-within-requires-4 c κs = search needs
-
 returns : tie.Need-returns
 unfolding admittedTriangle triangleAt
 returns c =
@@ -76,12 +40,6 @@ returns-4 : tie.Need-returns-4
 unfolding admittedTriangle triangleAt
 returns-4 c = and-no _ _ (stands-within _ _ _ _ _ (c .before .within .ensures) (c .before .before .three .ensures) (c .if2 .left))
 
-read-requires : tie.Need-read-requires
-read-requires c κs = search needs
-
-admitted-requires : tie.Need-admitted-requires
-admitted-requires c κs = search needs
-
 returns-5 : tie.Need-returns-5
 returns-5 c = c .admitted .ensures ∙ ap admittedTriangle (c .before .read .ensures)
 
@@ -89,22 +47,12 @@ pub admitted-at-spec : {M : Type 1} → statement M
 admitted-at-spec =
     tie.close
     (tie.spec
-    mul-at
-    three-requires
-    within-requires
-    add-three
-    three-requires-2
-    within-requires-2
-    add-three-2
-    three-requires-3
-    within-requires-3
-    add-three-3
-    three-requires-4
-    within-requires-4
+    (λ c. search needs) (λ c κs. search needs) (λ c κs. search needs) (λ c. search needs) (λ c κs. search needs)
+    (λ c κs. search needs) (λ c. search needs) (λ c κs. search needs) (λ c κs. search needs) (λ c. search needs)
+    (λ c κs. search needs) (λ c κs. search needs)
     returns
     returns-2
     returns-3
     returns-4
-    read-requires
-    admitted-requires
+    (λ c κs. search needs) (λ c κs. search needs)
     returns-5)
