@@ -1,12 +1,12 @@
 -- A ray that passes a box passes every box that contains it: it enters that one no later and leaves it no earlier, axis by axis, since rounding keeps the order.
 -- Assumes nothing.
 use mathlib.Core.Path.{_≡_, refl}
-use mathlib.Core.Logic.{_⊎_, inl, inr}
+use mathlib.Core.Logic.{inl, inr}
 use mathlib.Core.Bool.{Bool, true, false, not, _||_, cond, or-false}
 use Prim.Native.Nat.{ℕ, zero, suc}
 use lib.IntN.{pos}
 use lib.Dec.{T}
-use lib.Ieee.{Float, nan, inf, fin, binary64, sub, mul, div, lt, le, eq, isNan}
+use lib.Ieee.{Float, nan, inf, fin, binary64, sub, div, lt, le, eq, isNan}
 use lib.Ieee.Fits.{and-l, and-r}
 use lib.Ieee.Scale.{finite}
 use Rattle.order.specs.Number.{real, nought, one, two, two-to-40, trillionth, infinity}

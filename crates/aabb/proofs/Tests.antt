@@ -1,13 +1,13 @@
 -- What the code of vectors, boxes and slabs tests is what the definitions say: one law for each kind of branch. Assumes nothing.
-use mathlib.Core.Path.{_≡_, refl, sym, ap, _∙_}
+use mathlib.Core.Path.{_≡_, refl, sym, _∙_}
 use Prim.Native.Nat.{ℕ, zero, suc, _+_, _-_, _*_, _/_, _≤_, _<_, min}
 use native.Mathlib.Nat.{add-assoc, add-zero, mul-zero, mul-le-mul-right, div-mul-le-self, lt-div-mul-add}
 use native.Mathlib.Omega.{arith, min-cases}
-use mathlib.Core.Bool.{Bool, true, false, not, _&&_, _||_, cond}
+use mathlib.Core.Bool.{Bool, true, false, _&&_, _||_}
 use mathlib.Core.List.{List}
 use lib.Dec.{T}
 use lib.IntN.{ℤ}
-use lib.ListN.{length, getD, List·getD-eq-default}
+use lib.ListN.{length, List·getD-eq-default}
 use lib.Ieee.{Float, nan, inf, fin, binary64, ofBits, add, sub, mul, div, neg, lt, le}
 use Rattle.order.specs.Number.{nought, one, two, trillionth, infinity}
 use Rattle.order.specs.Pick.{magnitude}

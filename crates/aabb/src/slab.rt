@@ -2,7 +2,7 @@
 use crate::bounds::Aabb;
 use crate::vector::Ray;
 ghost use mathlib.Core.Path.{_≡_};
-ghost use Rattle.aabb.specs.Slab.{reach, parallel, unlessLater, clipped, narrowed, onAxis, ahead, slab};
+ghost use Rattle.aabb.specs.Slab.{parallel, unlessLater, clipped, narrowed, onAxis, ahead, slab};
 
 // The times at which a ray enters and leaves a box, or that it misses it.
 pub enum Span {

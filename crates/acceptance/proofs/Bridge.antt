@@ -2,7 +2,7 @@
 use mathlib.Core.Path.{_≡_, refl}
 use mathlib.Core.Bool.{false}
 use mathlib.Core.List.{List}
-use Prim.Native.Nat.{ℕ, _+_, _-_, _*_, _/_, _%_, _≤_, _<_, max}
+use Prim.Native.Nat.{ℕ, _+_, _-_, _*_, _/_, _%_, _≤_, _<_}
 use native.Mathlib.Omega.{arith}
 use lib.ListN.{length, getD}
 use lib.Ieee.{Float}
@@ -10,7 +10,7 @@ use borrow.Author.Tests.{eq-eqb, ne-eqb, le-ltb}
 use Rattle.aabb.proofs.Holds.{bounded-usable}
 use Rattle.builder.specs.Tree.{Tree as Grown-tree, leaf as grown-leaf, fork as grown-fork, leaves as grown-leaves}
 use Rattle.builder.specs.Lists.{boxOf as grown-box, size as grown-size, depth as grown-depth, Holds as Grown-holds, Nested as Grown-nested, Runs as Grown-runs, Accepted as Grown-accepted}
-use Rattle.scene.specs.Lent.{Lent, lent, nodeAt, leftOf, rightOf}
+use Rattle.scene.specs.Lent.{lent, nodeAt, leftOf, rightOf}
 use Rattle.scene.specs.Walk.{misfit}
 use Rattle.scene.specs.Tree.{Tree, leaf, internal, boxOf, size, leaves, depth, held, Holds, Nested, Accepted}
 

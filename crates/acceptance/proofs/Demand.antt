@@ -1,6 +1,6 @@
 -- Demand 3 holds of every accepted tree, and so of every tree that is built. Assumes nothing.
 use mathlib.Core.Path.{_≡_, refl, sym, ap, _∙_}
-use Prim.Native.Nat.{ℕ, _+_, _*_}
+use Prim.Native.Nat.{ℕ, _*_}
 use native.Mathlib.Omega.{arith}
 use lib.Dec.{T}
 use mathlib.Core.List.{List}
@@ -13,7 +13,7 @@ use Rattle.builder.specs.Build.{Outcome, built}
 use Rattle.builder.proofs.Successes.{success, exact, accepted as accepted-lists}
 use Rattle.scene.specs.Lent.{Lent, lent, triangleCount}
 use Rattle.scene.specs.Answer.{Told}
-use Rattle.scene.specs.Walk.{over, walk}
+use Rattle.scene.specs.Walk.{over}
 use Rattle.scene.specs.Tree.{Tree, size, leaves, Accepted}
 use Rattle.scene.proofs.Accepting.{short, odd-size, accepted, few-tests}
 use Rattle.scene.proofs.NearestHit.{walk-nearest, walk-clear}

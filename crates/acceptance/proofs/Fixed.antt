@@ -1,7 +1,7 @@
 -- Each public call's promise fixes its answer and the final content of everything lent: any two that it allows are equal. Assumes nothing.
 use Prim.Native.Nat.{ℕ}
 use native.Mathlib.Omega.{arith}
-use mathlib.Core.Path.{_≡_, refl, sym, _∙_, ap}
+use mathlib.Core.Path.{_≡_, sym, _∙_, ap}
 use mathlib.Core.List.{List}
 use lib.Ieee.{Float}
 use Rattle.order.specs.Number.{nought}
@@ -10,13 +10,11 @@ use Rattle.aabb.specs.Vector.{vec}
 use Rattle.triangle.specs.declared.Corners.{Corners}
 use Rattle.triangle.specs.declared.Triangle.{Triangle}
 use Rattle.triangle.specs.declared.Distance.{Distance}
-use Rattle.triangle.specs.declared.Hit.{Hit}
-use Rattle.triangle.specs.declared.Found.the-variants.{At, Nothing}
 use Rattle.builder.specs.declared.Built.{Built}
 use Rattle.builder.specs.Build.{Outcome, outcome}
 use Rattle.scene.specs.declared.Answer.{Answer}
 use Rattle.scene.specs.declared.Answer.the-variants.{Struck, Missed, Refused}
-use Rattle.scene.specs.Answer.{Told, none, numbered, told}
+use Rattle.scene.specs.Answer.{Told, told}
 use Rattle.scene.specs.declared.rays.Filled.{Filled}
 use Rattle.scene.specs.Sky.{Outcome as Filling, outcome as filling}
 

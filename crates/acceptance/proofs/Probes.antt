@@ -1,9 +1,8 @@
 -- P1 to P12 hold of the rules: one test, computed over the whole table, and one law that turns it into the claim of every row. Assumes nothing.
-use Prim.Native.Nat.{ℕ}
-use mathlib.Core.Bool.{Bool, true, false, _&&_}
+use mathlib.Core.Bool.{Bool, true, _&&_}
 use mathlib.Core.List.{List, [], _∷_}
 use lib.Dec.{T}
-use lib.Ieee.{Float, isNan, lt, le, eq, add, sub, mul, div, neg, ofBits, ofInt, sum, round, units, odd, size, span, climb}
+use lib.Ieee.{isNan, lt, le, eq, add, sub, mul, div, neg, ofBits, ofInt, sum, round, units, odd, size, span, climb}
 use lib.Ieee.Fits.{and-l, and-r}
 use lib.Count.{trailingZeros}
 use Rattle.order.specs.Pick.{lesser, greater}

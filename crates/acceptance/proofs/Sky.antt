@@ -1,5 +1,5 @@
 -- Demand 3 reads for each place of a sky of rays over a built tree: a place tells what the single walk answers, and that meets it. Assumes nothing.
-use mathlib.Core.Path.{_≡_, refl, sym, ap, subst⁻¹, _∙_}
+use mathlib.Core.Path.{_≡_, refl, ap, _∙_}
 use mathlib.Core.Logic.{inl, inr}
 use mathlib.Core.List.{List, _++_}
 use Prim.Native.Nat.{ℕ, _*_, _/_, _%_, _≤_, _<_}

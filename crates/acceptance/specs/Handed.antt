@@ -1,5 +1,5 @@
 -- A built tree is handed to the walk as its 2L-1 nodes and n index entries, without spare room. Definitions only.
-use Prim.Native.Nat.{ℕ, _*_}
+use Prim.Native.Nat.{_*_}
 use mathlib.Core.List.{List, []}
 use lib.ListN.{take}
 use lib.Ieee.{Float}

@@ -5,7 +5,7 @@ use mathlib.Core.Bool.{Bool, true, false}
 use mathlib.Core.List.{List, [], _∷_, _++_}
 use lib.ListN.{replicate}
 use lib.IntN.{pos, negsuc}
-use lib.Ieee.{Float, nan, inf, fin}
+use lib.Ieee.{Float, inf, fin}
 use Rattle.aabb.specs.declared.vector.Vec3.{Vec3}
 use Rattle.aabb.specs.declared.vector.Ray.{Ray}
 use Rattle.aabb.specs.declared.bounds.Aabb.{Aabb}
@@ -14,7 +14,6 @@ use Rattle.aabb.specs.declared.slab.Span.the-variants.{Passed, Missed}
 use Rattle.aabb.specs.Vector.{vec}
 use Rattle.aabb.specs.Bounds.{box, emptyBox}
 use Rattle.aabb.specs.Slab.{slab}
-use Rattle.triangle.specs.declared.Hit.{Hit}
 use Rattle.triangle.specs.declared.Found.the-variants.{At, Nothing}
 use Rattle.builder.specs.declared.Built.the-variants.{Tree}
 use Rattle.builder.specs.declared.split.SplitDecision.{SplitDecision}

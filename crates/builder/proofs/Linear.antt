@@ -5,9 +5,9 @@ use native.Mathlib.Omega.{arith}
 use mathlib.Core.Bool.{Bool, true, false}
 use lib.Dec.{ltb}
 use lib.Ieee.{Float, lt, ne}
-use borrow.Author.Tests.{ltb-true, ltb-false, lt-ltb, le-ltb}
+use borrow.Author.Tests.{ltb-true, ltb-false, le-ltb}
 use Rattle.order.specs.Number.{nought, real}
-use Rattle.order.specs.Total.{lex, totalLess}
+use Rattle.order.specs.Total.{totalLess}
 use Rattle.order.proofs.Total.{Weak, weak-lex, weak-total, lex-false, total-gt, total-level, total-lt}
 use Rattle.builder.specs.Fallback.{underAt, ahead}
 

@@ -1,5 +1,5 @@
 -- Each test that leads to a bad input, and what a good one has. Assumes nothing.
-use mathlib.Core.Path.{_≡_, refl, sym, ap, _∙_}
+use mathlib.Core.Path.{_≡_, refl, sym, _∙_}
 use mathlib.Core.Bool.{Bool, true, false, _&&_, and-false, true≢false}
 use mathlib.Core.List.{List}
 use Prim.Native.Nat.{ℕ, _+_, _*_, _≤_, _<_}
@@ -7,7 +7,6 @@ use native.Mathlib.Omega.{arith}
 use borrow.Author.Tests.{le-leb, lt-leb, leb-true, eq-eqb, ne-eqb, eqb-true}
 use lib.Dec.{eqb, leb}
 use lib.ListN.{length}
-use Rattle.report.specs.declared.input.Input.{Input}
 use Rattle.report.specs.declared.input.Input.the-variants.{Good, Bad}
 use Rattle.report.specs.Little.{word}
 use Rattle.report.specs.Input.{most, countAt, wholeLength, fine, measuredBy, measured}

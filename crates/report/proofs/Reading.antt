@@ -1,7 +1,7 @@
 -- A number is its two words, a vector its three numbers, a ray its two vectors; and a list of numbers grows by one. Assumes nothing.
-use mathlib.Core.Path.{_≡_, refl}
-use mathlib.Core.List.{List, [], _∷_, _++_}
-use Prim.Native.Nat.{ℕ, suc, _+_, _*_, _<_}
+use mathlib.Core.Path.{_≡_}
+use mathlib.Core.List.{List}
+use Prim.Native.Nat.{ℕ, _+_, _*_, _<_}
 use native.Mathlib.Numerals.{add-one}
 use lib.ListN.{length, take, set}
 use lib.Seq.{take-suc-set}

@@ -1,5 +1,5 @@
 -- The report of the cases that a build and an input have, and the part of the room that the walk is handed. Assumes nothing.
-use mathlib.Core.Path.{_≡_, refl, sym, ap, _∙_, subst}
+use mathlib.Core.Path.{_≡_, refl, sym, ap, _∙_}
 use mathlib.Core.Bool.{Bool, true, false}
 use mathlib.Core.List.{List, _++_}
 use Prim.Native.Nat.{ℕ, _+_, _*_, _-_, _≤_, _<_, min}
@@ -12,13 +12,12 @@ use lib.Seq.{length-take-le, length-front, take-at, take-all}
 use lib.Ieee.{Float}
 use Rattle.builder.specs.declared.Built.{Built}
 use Rattle.builder.specs.declared.Built.the-variants.{Tree, Refused}
-use Rattle.builder.specs.Build.{Outcome, outcome}
+use Rattle.builder.specs.Build.{outcome}
 use Rattle.scene.specs.Lent.{Lent, lent}
 use Rattle.report.specs.declared.input.Input.{Input}
 use Rattle.report.specs.declared.input.Input.the-variants.{Good, Bad}
 use Rattle.report.specs.Little.{numbers}
 use Rattle.report.specs.Input.{measured}
-use Rattle.report.specs.Text.{Wrote}
 use Rattle.report.specs.Lines.{badInput, buildRefusedLine, builtLine}
 use Rattle.report.specs.Survey.{rayLines, handed, builtOf, reportOf, reported, surveyedAs, surveyed}
 

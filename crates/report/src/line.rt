@@ -1,7 +1,6 @@
 // The report's lines. A line takes at most 128 bytes.
 use crate::text;
 use scene::Answer;
-ghost use mathlib.Core.Path.{_≡_};
 ghost use Prim.Native.Nat.{_+_, _≤_};
 ghost use lib.ListN.{length};
 ghost use Rattle.scene.specs.Answer.{told};

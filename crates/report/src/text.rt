@@ -1,6 +1,4 @@
 // Bytes and digits, written into lent room from a place on. Each call answers the place after what it wrote; the rest of the room stays.
-ghost use mathlib.Core.Path.{_≡_};
-ghost use mathlib.Core.List.{_++_};
 ghost use Prim.Native.Nat.{_+_, _≤_};
 ghost use lib.ListN.{length};
 ghost use Rattle.report.specs.Text.{Wrote, decimal, hexadecimal, named, pair};

@@ -3,11 +3,11 @@
 use mathlib.Core.Path.{_≡_, refl, sym, ap, _∙_}
 use mathlib.Core.Bool.{Bool, true, false, not, cond}
 use mathlib.Core.List.{List, [], _∷_, _++_}
-use Prim.Native.Nat.{ℕ, zero, suc, _+_, _-_, _*_, _%_, _≤_, _<_, max}
+use Prim.Native.Nat.{ℕ, zero, suc, _+_, _-_, _*_, _≤_, _<_}
 use native.Mathlib.Nat.{zero-add}
 use native.Mathlib.Omega.{arith}
-use borrow.Author.Tests.{lt-leb, le-leb, le-ltb, lt-ltb, eq-eqb, ne-eqb}
-use lib.Dec.{T, T-not, not-T, leb, ltb, eqb}
+use borrow.Author.Tests.{lt-leb, le-ltb, ne-eqb}
+use lib.Dec.{T, T-not, not-T}
 use lib.ListN.{length, getD, length-append}
 use lib.Ieee.Bits.{is-true, is-false}
 use Rattle.aabb.specs.declared.vector.Ray.{Ray}
@@ -18,14 +18,13 @@ use Rattle.aabb.specs.Slab.{passes}
 use Rattle.aabb.proofs.Inside.{usable-inside}
 use Rattle.triangle.specs.Mesh.{triangleAt, admittedTriangle}
 use Rattle.scene.specs.declared.tally.Nearest.{Nearest}
-use Rattle.scene.specs.declared.tally.Nearest.the-variants.{Unmet}
 use Rattle.scene.specs.declared.tally.Tally.{Tally}
 use Rattle.scene.specs.declared.step.Turn.{Turn}
-use Rattle.scene.specs.declared.step.Turn.the-variants.{Refuse, Down, Open}
+use Rattle.scene.specs.declared.step.Turn.the-variants.{Down, Open}
 use Rattle.scene.specs.declared.node.Node.{Node}
-use Rattle.scene.specs.Lent.{Lent, most-pending, most-triangles, triangleCount, nodeCount, leftOrFirst, nodeAt, sound, leftOf, rightOf}
-use Rattle.scene.specs.Walk.{start, boxed, after, tested, scan, openLeaf, openInternal, opened, judged, visit, over, onward, run, misfit, walk}
-use Rattle.scene.specs.Tree.{Tree, leaf, internal, boxOf, size, leaves, depth, held, IsLeaf, IsInternal, nodeOf, Holds, In, Nested, Accepted, entered, places, reached, nearest, foundIn}
+use Rattle.scene.specs.Lent.{Lent, most-pending, triangleCount, nodeCount, sound, leftOf, rightOf}
+use Rattle.scene.specs.Walk.{start, boxed, after, tested, scan, openLeaf, opened, judged, visit, onward, run, walk}
+use Rattle.scene.specs.Tree.{Tree, leaf, internal, boxOf, size, leaves, depth, held, IsLeaf, IsInternal, nodeOf, Holds, Nested, Accepted, entered, places, reached, nearest, foundIn}
 use Rattle.scene.proofs.Judged.{both-put}
 use Rattle.scene.proofs.Going.{none-pending, one-left}
 use Rattle.scene.proofs.Entrance.{entered as walk-entered}

@@ -14,7 +14,7 @@ use Rattle.triangle.specs.Mesh.{triangleAt, admittedTriangle}
 use Rattle.scene.specs.declared.tally.Nearest.{Nearest}
 use Rattle.scene.specs.declared.tally.Tally.{Tally}
 use Rattle.scene.specs.declared.step.Turn.{Turn}
-use Rattle.scene.specs.declared.step.Turn.the-variants.{Refuse, Down, Open}
+use Rattle.scene.specs.declared.step.Turn.the-variants.{Refuse, Down}
 use Rattle.scene.specs.declared.leaf.Verdict.{Verdict}
 use Rattle.scene.specs.declared.leaf.Verdict.the-variants.{Fit, Unfit}
 use Rattle.scene.specs.Lent.{triangleCount}

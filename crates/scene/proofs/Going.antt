@@ -11,7 +11,6 @@ use Rattle.scene.specs.declared.tally.Tally.{Tally}
 use Rattle.scene.specs.declared.step.Turn.{Turn}
 use Rattle.scene.specs.declared.step.Turn.the-variants.{Refuse, Down, Open}
 use Rattle.scene.specs.Lent.{Lent, most-pending, most-nodes, nodeCount}
-use Rattle.scene.specs.Answer.{Told}
 use Rattle.scene.specs.Walk.{start, visit, refused, over, onward, run}
 use Rattle.scene.specs.State.{top, pending, Ready}
 use Rattle.scene.proofs.Listed.{taken, length-top}

@@ -7,7 +7,7 @@ use mathlib.Core.Logic.{_⊎_, ⊎-elim}
 use mathlib.Core.List.{List, [], _∷_, _++_}
 use lib.ListN.{length, set, getD, drop, length-append, List·getD-append}
 use lib.Seq.{drop-cons, set-append-seam, getD-append-seam}
-use lib.Ieee.{Float, nan}
+use lib.Ieee.{Float}
 use Rattle.order.proofs.Cases.{same?}
 use Rattle.aabb.specs.declared.vector.Vec3.{Vec3}
 use Rattle.aabb.specs.declared.vector.Ray.{Ray}

@@ -1,7 +1,6 @@
 -- The prepared slab test is the slab test. Assumes nothing.
 use mathlib.Core.Path.{_≡_, refl, sym, ap, _∙_}
-use mathlib.Core.Bool.{Bool, true, false, _||_, cond}
-use Prim.Native.Nat.{ℕ, zero, suc}
+use mathlib.Core.Bool.{Bool, true, false, _||_}
 use lib.Ieee.{Float, binary64, sub, mul, lt}
 use Rattle.order.specs.Number.{nought, infinity}
 use Rattle.order.specs.Pick.{lesser, greater}

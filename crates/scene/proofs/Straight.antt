@@ -14,7 +14,7 @@ use Rattle.aabb.specs.declared.vector.Ray.{Ray}
 use Rattle.aabb.specs.declared.bounds.Aabb.{Aabb}
 use Rattle.aabb.specs.declared.slab.Span.{Span}
 use Rattle.aabb.specs.declared.slab.Span.the-variants.{Passed, Missed}
-use Rattle.aabb.specs.Slab.{first, second, unlessLater, clipped, andThen, ahead, onAxis, slabFrom, slab, isPassed, passes}
+use Rattle.aabb.specs.Slab.{first, second, unlessLater, clipped, andThen, ahead, slabFrom, slab, isPassed, passes}
 use Rattle.scene.specs.declared.aim.Sight.{Sight}
 use Rattle.scene.specs.declared.aim.Aim.{Aim}
 use Rattle.scene.specs.declared.aim.Reach.{Reach}

@@ -1,7 +1,7 @@
 // The pending node numbers and their count: one state, in and out by value in each step.
 ghost use mathlib.Core.Path.{_≡_};
 ghost use mathlib.Core.List.{[], _∷_};
-ghost use Prim.Native.Nat.{_+_, _-_, _<_, _≤_};
+ghost use Prim.Native.Nat.{_+_, _-_, _<_};
 ghost use Rattle.scene.specs.Lent.{most-pending};
 ghost use Rattle.scene.specs.State.{top, pending};
 

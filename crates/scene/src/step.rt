@@ -6,7 +6,7 @@ use crate::tally::Tally;
 ghost use mathlib.Core.Path.{_≡_};
 ghost use Prim.Native.Nat.{_<_, _≤_, _^_};
 ghost use Rattle.scene.specs.Lent.{lent, most-pending};
-ghost use Rattle.scene.specs.Walk.{openInternal, judged, visit};
+ghost use Rattle.scene.specs.Walk.{openInternal, visit};
 ghost use Rattle.scene.specs.State.{Ready};
 ghost use Rattle.scene.specs.Aim.{aimed};
 

@@ -1,10 +1,10 @@
 -- On admitted data every number of the test of a ray against a triangle is finite: each is bounded by a power of two, step by step. Assumes nothing.
 use mathlib.Core.Path.{_≡_, refl}
-use Prim.Native.Nat.{ℕ, zero, suc, _+_, _*_, _^_}
+use Prim.Native.Nat.{ℕ, _+_, _*_, _^_}
 use native.Mathlib.Omega.{arith}
 use mathlib.Core.Bool.{Bool, true, false, not, _&&_, _||_, cond}
 use lib.Dec.{T}
-use lib.Ieee.{Float, binary64, round, ofBits, add, sub, mul, div, lt, le}
+use lib.Ieee.{Float, binary64, round, ofBits, add, mul, lt, le}
 use lib.Ieee.Fits.{and-l, and-r}
 use lib.Ieee.Scale.{finite}
 use Rattle.order.specs.Number.{nought, one, two, two-to-40, millionth, ten-billionth, trillionth}
@@ -14,12 +14,11 @@ use Rattle.order.proofs.Order.{le-trans, not-lt→le, le→real-l, le→real-r}
 use Rattle.order.proofs.Bounds.{power, AtMost, power-finite, power-wider, add-most, sub-most, mul-most, inverse-most}
 use Rattle.aabb.specs.declared.vector.Vec3.{Vec3}
 use Rattle.aabb.specs.declared.vector.Ray.{Ray}
-use Rattle.aabb.specs.Vector.{along, plus, minus, scaled, dot, minor, cross, pointAt, allWithin, admittedRay}
+use Rattle.aabb.specs.Vector.{along, minus, dot, minor, cross, allWithin, admittedRay}
 use Rattle.aabb.proofs.Axis.{within-along}
 use Rattle.triangle.specs.declared.Triangle.{Triangle}
 use Rattle.triangle.specs.declared.Hit.{Hit}
-use Rattle.triangle.specs.declared.Found.{Found}
-use Rattle.triangle.specs.declared.Found.the-variants.{At, Nothing}
+use Rattle.triangle.specs.declared.Found.the-variants.{At}
 use Rattle.triangle.specs.declared.Distance.{Distance}
 use Rattle.triangle.specs.declared.Distance.the-variants.{To, None}
 use Rattle.triangle.specs.Mesh.{admittedTriangle}

@@ -1,5 +1,4 @@
 -- The box of an admitted triangle is bounded and holds its vertices. Assumes nothing.
-use mathlib.Core.Bool.{_&&_}
 use lib.Dec.{T}
 use lib.Ieee.Fits.{and-l, and-r}
 use Rattle.aabb.specs.Bounds.{bounded, holds}

@@ -1,8 +1,8 @@
 -- Each way out of the test of a ray against a triangle is what the definition says: the tests that led there decide it, in the file's order. What is worked out of the
 -- vertices alone is the triangle's. Assumes nothing.
-use mathlib.Core.Path.{_≡_, refl, sym, ap, _∙_}
+use mathlib.Core.Path.{_≡_, sym, ap, _∙_}
 use Prim.Native.Nat.{ℕ, _+_, _*_, min}
-use mathlib.Core.Bool.{Bool, true, false, not}
+use mathlib.Core.Bool.{Bool, true, false}
 use mathlib.Core.List.{List}
 use lib.ListN.{length}
 use lib.Ieee.{Float, binary64, add, lt, le}

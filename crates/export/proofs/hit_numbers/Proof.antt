@@ -1,5 +1,5 @@
 -- The array is the definition's list. Assumes nothing.
-use mathlib.Core.Path.{refl, sym, ap, _∙_}
+use mathlib.Core.Path.{refl}
 use Rattle.export.specs.Report.{hitNumbers}
 use Rattle.export.proofs.hit_numbers.Statement.{statement}
 use Rattle.export.proofs.hit_numbers.Tie as tie

@@ -1,5 +1,5 @@
 -- The loop's invariant: what is left of the walk gives the whole walk's answer. Assumes nothing.
-use mathlib.Core.Path.{_≡_, refl, sym, ap, _∙_}
+use mathlib.Core.Path.{_≡_, sym, ap, _∙_}
 use Prim.Native.Nat.{ℕ, _-_, _^_, _<_}
 use lib.ListN.{getD}
 use Rattle.scene.specs.Answer.{told}

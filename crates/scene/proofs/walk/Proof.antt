@@ -1,5 +1,4 @@
 -- Tests 1 and 2, then the walk of the ray. Assumes nothing.
-use mathlib.Core.Path.{sym}
 use Rattle.scene.specs.Answer.{told}
 use Rattle.scene.proofs.Entrance.{ragged, many}
 use borrow.Author.Needs.{needs}

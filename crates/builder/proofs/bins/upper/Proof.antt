@@ -2,7 +2,6 @@
 use mathlib.Core.Path.{_≡_, sym, _∙_, ap}
 use Prim.Native.Nat.{_+_}
 use native.Mathlib.Omega.{arith}
-use mathlib.Core.Bool.{true, false}
 use lib.Ieee.{Float, add, le, binary64}
 use Rattle.builder.specs.Bins.{whole}
 use Rattle.builder.proofs.Halves.{bin-from, bin-under, boundary}
