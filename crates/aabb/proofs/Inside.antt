@@ -14,7 +14,7 @@ use Rattle.order.specs.Pick.{magnitude, lesser, greater}
 use Rattle.order.proofs.Cases.{not-l, not-r, not-i}
 use Rattle.order.proofs.Numbers.{nought-is, two-is, trillionth-is, infinity-is}
 use Rattle.order.proofs.Order.{gain, loss, finite-real, le→real-l, le→real-r, le→not-lt, not-lt→le, le-refl, le-trans}
-use Rattle.order.proofs.Monotone.{sub-mono, mul-mono, mul-anti, mul-real, side}
+use Rattle.order.proofs.Monotone.{sub-mono, mul-mono, mul-anti, side}
 use Rattle.order.proofs.Bounds.{below-finite, power-finite, two-to-40-finite, sub-size, inverse-most}
 use Rattle.order.proofs.Pick.{greater-left, greater-right, greater-least, greater-mono, lesser-left, lesser-right, lesser-most, lesser-mono}
 use Rattle.aabb.specs.declared.vector.Ray.{Ray}
@@ -183,10 +183,6 @@ module _ (o d lo' hi' lo hi : Float) (c : Fine o d lo' hi' lo hi) where
     reach-anti : gain (div binary64 one d) ≡ 0 → (p q : Float) → T (le (magnitude p) two-to-40) → T (le (magnitude q) two-to-40) → T (le p q) → T (le (reach o d q) (reach o d p))
     unfolding reach
     reach-anti z p q h k l = mul-anti binary64 (sub binary64 p o) (sub binary64 q o) (div binary64 one d) (fine p h) (fine q k) inv z (closer p q h k l)
-
-    reach-real : (p : Float) → T (le (magnitude p) two-to-40) → T (real (reach o d p))
-    unfolding reach
-    reach-real p h = mul-real binary64 (sub binary64 p o) (div binary64 one d) (fine p h) inv
 
     exchanged : (T (le (first (reach o d lo') (reach o d hi')) (first (reach o d lo) (reach o d hi)))) × (T (le (second (reach o d lo) (reach o d hi)) (second (reach o d lo') (reach o d hi'))))
     exchanged =

@@ -70,9 +70,6 @@ module _ (xs c : List ℕ) (n : ℕ) (h : n ≤ length xs) (e : length c ≡ len
   pub rest-again : drop (n - 0) (c ++ postOf 0 (n - 0) xs) ≡ drop n xs
   rest-again = drop-at c (drop (n - 0) xs) (n - 0) (c-length ∙ sym (sub-zero n)) ∙ ap (λ (k : ℕ). drop k xs) (sub-zero n)
 
-  pub whole-length : length (c ++ postOf 0 (n - 0) xs) ≡ length xs
-  whole-length = let a = length-append c (drop (n - 0) xs) in let b = length-drop (n - 0) xs in let d = c-length in omega arith
-
   -- d came back in its turn
   pub twice-length : (d : List ℕ) → length d ≡ length (take (n - 0) (c ++ postOf 0 (n - 0) xs)) → length (d ++ drop (n - 0) (c ++ postOf 0 (n - 0) xs)) ≡ length xs
   twice-length d k =

@@ -179,9 +179,6 @@ accepted s t r A R =
     ∙ none-pending s r left (more s r (1 + 2 * entered r t) (reached r t) start)
     ∙ rw (zero-add (1 + 2 * entered r t), zero-add (length (reached r t)))
 
--- the bounds: at most one box test for each node, and one triangle test for each triangle
-pub few-boxes : (s : Lent) (t : Tree) (r : Ray) → Accepted s t → 1 + 2 * entered r t ≤ nodeCount (s .links)
-few-boxes s t r A = omega (arith, A .sized, short r t)
-
+-- at most one triangle test for each triangle
 pub few-tests : (s : Lent) (t : Tree) (r : Ray) → Accepted s t → length (reached r t) ≤ triangleCount (s .triangles)
 few-tests s t r A = omega (arith, A .covers, A .one-each, reached-most r t)
