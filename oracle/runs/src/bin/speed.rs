@@ -18,6 +18,10 @@ use std::hint::black_box;
 use std::time::Instant;
 
 const RAYS: usize = 10_000;
+/// Where a ray tests every triangle.
+const FEW: usize = 1_000;
+/// Enough that each side comes to a quiet moment of the machine.
+const RUNS: usize = 25;
 const SIZES: [usize; 3] = [1_000, 10_000, 65_536];
 /// A survey casts about so many rays from each panel.
 const SKY: usize = 2_000;
@@ -82,15 +86,14 @@ fn mixed(r: &mut Random, mesh: &[f64], count: usize) -> Vec<[f64; 6]> {
     (0..count).map(|k| kinds[k % 3](r, mesh)).collect()
 }
 
-fn compare_on(name: &str, mesh: &[f64], r: &mut Random) {
+fn compare_on(name: &str, mesh: &[f64], rays: usize, r: &mut Random) {
     let n = mesh.len() / 12;
     let triangles = world::triangles(mesh);
     let room = node_room(n);
     let mut lists = Lists::rooms(r, n, 6 * room, 3 * room);
     let nodes = build(mesh, &mut lists)[0] as usize;
-    let runs = if n > 20_000 { 5 } else { 9 };
     let built = least(
-        runs,
+        RUNS,
         || {
             black_box(build_bvh(black_box(&triangles)));
         },
@@ -103,11 +106,11 @@ fn compare_on(name: &str, mesh: &[f64], r: &mut Random) {
     lists.boxes.truncate(6 * nodes);
     lists.links.truncate(3 * nodes);
     let tree = world::build_ordered(&triangles).0;
-    let lent = mixed(r, mesh, RAYS);
+    let lent = mixed(r, mesh, rays);
     let given: Vec<Ray> = lent.iter().map(world::ray).collect();
     let (mut hits, mut ours) = (0_u64, 0_u64);
     let walked = least(
-        runs,
+        RUNS,
         || {
             hits = 0;
             for ray in &given {
@@ -134,7 +137,7 @@ fn compare_on(name: &str, mesh: &[f64], r: &mut Random) {
     );
     row(
         &format!("walk, {name}, {n} triangles ({hits} hits)"),
-        RAYS as f64,
+        rays as f64,
         walked,
     );
     if hits != ours {
@@ -152,7 +155,7 @@ fn sky_on(name: &str, mesh: &[f64], r: &mut Random) {
     let (mut singles, mut told) = (vec![[0; 4]; SKY], vec![0; 4 * SKY]);
     let mut times = vec![0.0; SKY];
     let walked = least(
-        25,
+        RUNS,
         || {
             let mut numbers = [0.0; 7];
             for (ray, told) in lent.iter().zip(&mut singles) {
@@ -239,7 +242,7 @@ fn main() {
         stop("usage: speed (it takes no words)");
     }
     println!(
-        "ns a triangle (build) and ns a ray (walk), {RAYS} rays; least of 5 to 9 runs in turn.\n"
+        "ns a triangle (build) and ns a ray (walk), {RAYS} rays, {FEW} in the worst case; least of {RUNS} runs in turn.\n"
     );
     println!("| what | Rust | Pigeonmast | ratio |");
     println!("|---|---:|---:|---:|");
@@ -247,22 +250,22 @@ fn main() {
     let mut largest = Vec::new();
     for n in SIZES {
         let mesh = meshes::terrain(&mut r, n);
-        compare_on("terrain with houses", &mesh, &mut r);
+        compare_on("terrain with houses", &mesh, RAYS, &mut r);
         if n == 65_536 {
             largest.push(("terrain with houses", mesh));
         }
     }
     for n in SIZES {
         let mesh = meshes::even_soup(&mut r, n);
-        compare_on("soup", &mesh, &mut r);
+        compare_on("soup", &mesh, RAYS, &mut r);
         if n == 65_536 {
             largest.push(("soup", mesh));
         }
     }
     let mesh = meshes::worst(&mut r, 65_536);
-    compare_on("worst case, the fallback", &mesh, &mut r);
+    compare_on("worst case, the fallback", &mesh, FEW, &mut r);
 
-    println!("\nns a ray, both Pigeonmast's; least of 25 runs in turn.\n");
+    println!("\nns a ray, both Pigeonmast's; least of {RUNS} runs in turn.\n");
     println!("| what | single calls | one call | ratio |");
     println!("|---|---:|---:|---:|");
     for (name, mesh) in &largest {
