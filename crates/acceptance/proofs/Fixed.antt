@@ -1,15 +1,18 @@
 -- Each public call's promise fixes its answer and the final content of everything lent: any two that it allows are equal. Assumes nothing.
 use Prim.Native.Nat.{ℕ}
 use native.Mathlib.Omega.{arith}
-use mathlib.Core.Path.{_≡_, sym, _∙_, ap}
+use mathlib.Core.Path.{_≡_, refl, sym, _∙_, ap}
 use mathlib.Core.List.{List}
 use lib.Ieee.{Float}
 use Rattle.order.specs.Number.{nought}
 use Rattle.aabb.specs.declared.vector.Vec3.{Vec3}
+use Rattle.aabb.specs.declared.vector.Ray.{Ray}
 use Rattle.aabb.specs.Vector.{vec}
 use Rattle.triangle.specs.declared.Corners.{Corners}
 use Rattle.triangle.specs.declared.Triangle.{Triangle}
+use Rattle.triangle.specs.declared.Crossing.{Crossing}
 use Rattle.triangle.specs.declared.Distance.{Distance}
+use Rattle.triangle.proofs.Steps.{triangle, Crossed}
 use Rattle.builder.specs.declared.Built.{Built}
 use Rattle.builder.specs.Build.{Outcome, outcome}
 use Rattle.scene.specs.declared.Answer.{Answer}
@@ -35,6 +38,20 @@ corners-fixed c c' t p q = alike (fixed (p .0) (q .0)) (fixed (p .1) (q .1)) (fi
 
 pub distance-fixed : (d d' : Distance) (at : Vec3 → Distance) → ((normal : Vec3) → d ≡ at normal) → ((normal : Vec3) → d' ≡ at normal) → d ≡ d'
 distance-fixed d d' at p q = let any = vec nought nought nought in fixed (p any) (q any)
+
+-- `Corners::crossing` the four numbers of the test, of every triangle with these vertices
+pub crossing-fixed : (x x' : Crossing) (v0 v1 v2 : Vec3) (r : Ray) → ((a : Triangle) → v0 ≡ a .v0 → v1 ≡ a .v1 → v2 ≡ a .v2 → Crossed r a x) → ((a : Triangle) → v0 ≡ a .v0 → v1 ≡ a .v1 → v2 ≡ a .v2 → Crossed r a x') → x ≡ x'
+crossing-fixed x x' v0 v1 v2 r p q =
+    let any = triangle v0 v1 v2 (vec nought nought nought) in
+    let e = p any refl refl refl in
+    let f = q any refl refl refl in
+    alike (fixed (e .0) (f .0)) (fixed (e .1) (f .1)) (fixed (e .2) (f .2)) (fixed (e .3) (f .3))
+  where
+    crossing : Float → Float → Float → Float → Crossing
+    crossing d u v t = record { det = d; u = u; v = v; t = t }
+
+    alike : {d d' u u' v v' t t' : Float} → d ≡ d' → u ≡ u' → v ≡ v' → t ≡ t' → crossing d u v t ≡ crossing d' u' v' t'
+    alike e f g h = rw (e, f, g, h)
 
 -- `build`: the answer, and the index list, boxes and links at the end
 pub build-fixed : (a a' : Built) (index index' : List ℕ) (boxes boxes' : List Float) (links links' : List ℕ) (d : Outcome) → outcome a index boxes links ≡ d → outcome a' index' boxes' links' ≡ d

@@ -52,7 +52,9 @@ pub fn nearer(best: Nearest, number: u32, found: Distance) -> Nearest
 pub fn after(triangles: &[f64], ray: Ray, number: u32, best: Nearest) -> Nearest
     ensures { λ r. ⌜ r ≡ after (now (triangles .entry)) ray number best ⌝ }
 {
-    let found = Corners::read(triangles, number as usize).distance(ray);
+    let found = Corners::read(triangles, number as usize)
+        .crossing(ray)
+        .distance();
     nearer(best, number, found)
 }
 

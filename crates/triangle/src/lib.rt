@@ -10,7 +10,7 @@ ghost use lib.ListN.{length};
 ghost use Rattle.order.specs.Number.{three};
 ghost use Rattle.aabb.specs.Vector.{vectorAt, plus, divided};
 ghost use Rattle.triangle.specs.Mesh.{triangleAt, boundsOf, centroidOf, admittedTriangle};
-ghost use Rattle.triangle.specs.Meeting.{distance, hitAt, strike};
+ghost use Rattle.triangle.specs.Meeting.{det, uOf, vOf, tOf, judged, distance, hitAt, strike};
 
 pub struct Triangle {
     pub v0: Vec3,
@@ -39,6 +39,14 @@ pub struct Hit {
 pub enum Found {
     At(Hit),
     Nothing,
+}
+
+// The numbers of the test, by the Rust's names, worked out straight through.
+pub struct Crossing {
+    pub det: f64,
+    pub u: f64,
+    pub v: f64,
+    pub t: f64,
 }
 
 // How far along the ray it meets the triangle, if it does.
@@ -173,60 +181,78 @@ impl Corners {
         self.v0.plus(self.v1).plus(self.v2).divided(3.0)
     }
 
-    // How far along the ray the triangle is met, whatever its normal: the test of the Rust, step by step.
-    pub fn distance(self, ray: Ray) -> Distance
-        ensures { λ r. ⌜ ((normal : Vec3) → r ≡ distance ray (record { v0 = self .v0; v1 = self .v1; v2 = self .v2; normal = normal })) ⌝ }
+    // The numbers of the test of a triangle with these vertices, step by step as the Rust works them out.
+    pub fn crossing(self, ray: Ray) -> Crossing
+        ensures { λ r. ⌜ ((a : Triangle) → self .v0 ≡ a .v0 → self .v1 ≡ a .v1 → self .v2 ≡ a .v2 → (r .det ≡ det ray a) × (r .u ≡ uOf ray a) × (r .v ≡ vOf ray a) × (r .t ≡ tOf ray a)) ⌝ }
     {
         let edge1 = self.v1.minus(self.v0);
         let edge2 = self.v2.minus(self.v0);
         let pvec = ray.direction.cross(edge2);
         let det = edge1.dot(pvec);
-        if order::magnitude(det) < 1e-10 {
-            return Distance::None;
-        }
         let inv_det = 1.0 / det;
         let tvec = ray.origin.minus(self.v0);
         let u = tvec.dot(pvec) * inv_det;
-        if !(0.0 <= u) {
-            return Distance::None;
-        }
-        if !(u <= 1.0) {
-            return Distance::None;
-        }
         let qvec = tvec.cross(edge1);
         let v = ray.direction.dot(qvec) * inv_det;
-        if v < 0.0 {
-            return Distance::None;
-        }
-        if u + v > 1.0 {
-            return Distance::None;
-        }
         let t = edge2.dot(qvec) * inv_det;
-        if t <= 1e-6 {
-            return Distance::None;
-        }
-        Distance::To(t)
+        Crossing { det, u, v, t }
+    }
+
+    // How far along the ray the triangle is met, whatever its normal.
+    pub fn distance(self, ray: Ray) -> Distance
+        ensures { λ r. ⌜ ((normal : Vec3) → r ≡ distance ray (record { v0 = self .v0; v1 = self .v1; v2 = self .v2; normal = normal })) ⌝ }
+    {
+        self.crossing(ray).distance()
     }
 }
 
-// Whether triangle i of a mesh is admitted: each vector is tested where it stands, so that no whole triangle goes through memory.
+impl Crossing {
+    // How far along the ray the triangle is met: the Rust's tests. Most triangles are missed by u or v, and a processor can't foretell by which of
+    // four tests; so one that says no less of them comes first, and leaves few.
+    pub fn distance(self) -> Distance
+        ensures { λ r. ⌜ r ≡ judged (self .det) (self .u) (self .v) (self .t) ⌝ }
+    {
+        let both = self.u + self.v;
+        let least = order::lower(order::lower(self.u, self.v), 1.0 - both);
+        if !(0.0 <= least) {
+            return Distance::None;
+        }
+        if order::magnitude(self.det) < 1e-10 {
+            return Distance::None;
+        }
+        if !(0.0 <= self.u) {
+            return Distance::None;
+        }
+        if !(self.u <= 1.0) {
+            return Distance::None;
+        }
+        if self.v < 0.0 {
+            return Distance::None;
+        }
+        if both > 1.0 {
+            return Distance::None;
+        }
+        if self.t <= 1e-6 {
+            return Distance::None;
+        }
+        Distance::To(self.t)
+    }
+}
+
+// Whether triangle i of a mesh is admitted; none beyond the mesh's end is.
 pub fn admitted_at(mesh: &[f64], i: usize) -> bool
     ensures { λ r. ⌜ r ≡ admittedTriangle (triangleAt (now (mesh .entry)) i) ⌝ }
 {
     if i < mesh.len() / 12 {
         let at = i * 12;
-        if three(mesh, at).within(1099511627776.0) {
-            if three(mesh, at + 3).within(1099511627776.0) {
-                if three(mesh, at + 6).within(1099511627776.0) {
-                    return three(mesh, at + 9).within(2.0);
-                }
-                return false;
-            }
-            return false;
-        }
-        return false;
+        let v0 = three(mesh, at);
+        let v1 = three(mesh, at + 3);
+        let v2 = three(mesh, at + 6);
+        let normal = three(mesh, at + 9);
+        let t = Triangle { v0, v1, v2, normal };
+        return t.admitted();
     }
-    Triangle::read(mesh, i).admitted()
+    false
 }
 
 // Three numbers of a mesh that are there: one test of a triangle's place does for all twelve.

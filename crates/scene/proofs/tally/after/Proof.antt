@@ -1,23 +1,18 @@
 -- By what the triangle test ensures. Assumes nothing.
 use mathlib.Core.Path.{ap, _∙_}
-use Rattle.triangle.proofs.Steps.{distance-corners}
+use Rattle.triangle.proofs.Steps.{distance-crossed}
 use Rattle.scene.specs.Walk.{after, nearer}
 use borrow.Author.Needs.{needs}
 use Rattle.scene.proofs.tally.after.Statement.{statement}
 use Rattle.scene.proofs.tally.after.Tie as tie
 
-read-requires : tie.Need-read-requires
-read-requires c κs = search needs
-
-distance-requires : tie.Need-distance-requires
-distance-requires c κs = search needs
-
-nearer-requires : tie.Need-nearer-requires
-nearer-requires c κs = search needs
-
 returns : tie.Need-returns
 unfolding after
-returns c = c .nearer .ensures ∙ ap (nearer _ _) (distance-corners _ _ _ _ (c .before .before .read .ensures) (c .before .distance .ensures))
+returns c =
+    let d = c .before in
+    let k = d .before in
+    let s = k .before .read .ensures in
+    c .nearer .ensures ∙ ap (nearer _ _) (distance-crossed _ _ _ _ (k .crossing .ensures _ (s .0) (s .1) (s .2)) (d .distance .ensures))
 
 pub after-spec : {M : Type 1} → statement M
-after-spec = tie.close (tie.spec read-requires distance-requires nearer-requires returns)
+after-spec = tie.close (tie.spec (λ c κs. search needs) (λ c κs. search needs) (λ c κs. search needs) (λ c κs. search needs) returns)
