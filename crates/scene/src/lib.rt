@@ -102,7 +102,10 @@ fn run(triangles: &[f64], index: &[u32], boxes: &[f64], links: &[u32], ray: Ray)
             }
             Turn::Open { left, right, tally } => {
                 a = tally;
-                pending = pending.opened(left, right);
+                // Right, then left in the room beyond those that are pending besides.
+                pending.nodes[besides] = right;
+                pending.nodes[besides + 1] = left;
+                pending = pending.opened();
                 last = left;
             }
         }

@@ -2,8 +2,9 @@
 ghost use mathlib.Core.Path.{_≡_};
 ghost use mathlib.Core.List.{[], _∷_};
 ghost use Prim.Native.Nat.{_+_, _-_, _<_};
+ghost use lib.ListN.{length};
 ghost use Rattle.scene.specs.Lent.{most-pending};
-ghost use Rattle.scene.specs.State.{top, pending};
+ghost use Rattle.scene.specs.State.{pending};
 
 // The first `len` of the numbers are pending; the last of them is taken next.
 pub struct Pending {
@@ -14,7 +15,7 @@ pub struct Pending {
 impl Pending {
     // The root alone.
     pub fn root() -> Pending
-        ensures { λ r. ⌜ (r .len ≡ 1) × (pending r ≡ 0 ∷ []) ⌝ }
+        ensures { λ r. ⌜ (r .len ≡ 1) × (pending r ≡ 0 ∷ []) × (length (r .nodes) ≡ most-pending) ⌝ }
     {
         Pending {
             nodes: [0u32; 64],
@@ -25,7 +26,7 @@ impl Pending {
     // The last one is dropped: those that are pending besides are left.
     pub fn dropped(self) -> Pending
         requires { ⌜ 0 < self .len ⌝ }
-        ensures { λ r. ⌜ (r .len ≡ self .len - 1) × (pending r ≡ top (self .nodes) (self .len - 1)) ⌝ }
+        ensures { λ r. ⌜ (r .len ≡ self .len - 1) × (r .nodes ≡ self .nodes) ⌝ }
     {
         let nodes = self.nodes;
         Pending {
@@ -34,18 +35,15 @@ impl Pending {
         }
     }
 
-    // The last one is opened: right, then left in its place, after those that are pending besides.
-    pub fn opened(self, left: u32, right: u32) -> Pending
-        requires { ⌜ (0 < self .len) × (self .len < most-pending) ⌝ }
-        ensures { λ r. ⌜ (r .len ≡ self .len + 1) × (pending r ≡ left ∷ right ∷ top (self .nodes) (self .len - 1)) ⌝ }
+    // The last one is opened: its children stand in its place and in the next, and both are pending.
+    pub fn opened(self) -> Pending
+        requires { ⌜ self .len < most-pending ⌝ }
+        ensures { λ r. ⌜ (r .len ≡ self .len + 1) × (r .nodes ≡ self .nodes) ⌝ }
     {
-        let mut nodes = self.nodes;
-        let len = self.len;
-        nodes[len - 1] = right;
-        nodes[len] = left;
+        let nodes = self.nodes;
         Pending {
             nodes,
-            len: len + 1,
+            len: self.len + 1,
         }
     }
 }

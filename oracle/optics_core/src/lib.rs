@@ -4,6 +4,10 @@
 //! Dot is ((x·x' + y·y') + z·z'); cross is (y·z'-z·y', z·x'-x·z', x·y'-y·x');
 //! a point at t is origin + direction·t, by component. A ray carries its
 //! direction as given; wavelength, energy and `Ray::new` are out.
+//!
+//! What the published files call is `#[inline]`, as nalgebra's is: without it
+//! `v[axis]` stays a call across crates, and the Rust is a third slower than
+//! its owners have it.
 
 use std::ops::{Add, Div, Index, Mul, Neg, Sub};
 
@@ -15,14 +19,17 @@ pub struct Vec3 {
 }
 
 impl Vec3 {
+    #[inline]
     pub const fn new(x: f64, y: f64, z: f64) -> Self {
         Self { x, y, z }
     }
 
+    #[inline]
     pub fn dot(&self, other: &Self) -> f64 {
         (self.x * other.x + self.y * other.y) + self.z * other.z
     }
 
+    #[inline]
     pub fn cross(&self, other: &Self) -> Self {
         Self::new(
             self.y * other.z - self.z * other.y,
@@ -44,6 +51,7 @@ impl Vec3 {
 
 impl Add for Vec3 {
     type Output = Self;
+    #[inline]
     fn add(self, o: Self) -> Self {
         Self::new(self.x + o.x, self.y + o.y, self.z + o.z)
     }
@@ -51,6 +59,7 @@ impl Add for Vec3 {
 
 impl Sub for Vec3 {
     type Output = Self;
+    #[inline]
     fn sub(self, o: Self) -> Self {
         Self::new(self.x - o.x, self.y - o.y, self.z - o.z)
     }
@@ -58,6 +67,7 @@ impl Sub for Vec3 {
 
 impl Mul<f64> for Vec3 {
     type Output = Self;
+    #[inline]
     fn mul(self, k: f64) -> Self {
         Self::new(self.x * k, self.y * k, self.z * k)
     }
@@ -65,6 +75,7 @@ impl Mul<f64> for Vec3 {
 
 impl Div<f64> for Vec3 {
     type Output = Self;
+    #[inline]
     fn div(self, k: f64) -> Self {
         Self::new(self.x / k, self.y / k, self.z / k)
     }
@@ -72,6 +83,7 @@ impl Div<f64> for Vec3 {
 
 impl Neg for Vec3 {
     type Output = Self;
+    #[inline]
     fn neg(self) -> Self {
         Self::new(-self.x, -self.y, -self.z)
     }
@@ -79,6 +91,7 @@ impl Neg for Vec3 {
 
 impl Index<usize> for Vec3 {
     type Output = f64;
+    #[inline]
     fn index(&self, axis: usize) -> &f64 {
         match axis {
             0 => &self.x,
@@ -96,6 +109,7 @@ pub struct Ray {
 }
 
 impl Ray {
+    #[inline]
     pub fn at(&self, t: f64) -> Vec3 {
         self.origin + self.direction * t
     }

@@ -1,21 +1,21 @@
 -- The loop's invariant: what is left of the walk gives the whole walk's answer. Assumes nothing.
 use mathlib.Core.Path.{_≡_, sym, ap, _∙_}
 use Prim.Native.Nat.{ℕ, _-_, _^_, _<_}
-use lib.ListN.{getD}
+use lib.ListN.{length, getD}
 use Rattle.scene.specs.Answer.{told}
 use native.Mathlib.Omega.{arith}
 use borrow.Author.Needs.{needs}
 use Rattle.aabb.specs.declared.vector.Ray.{Ray}
-use Rattle.scene.specs.Lent.{Lent, lent}
+use Rattle.scene.specs.Lent.{Lent, lent, most-pending}
 use Rattle.scene.specs.Walk.{visit}
 use Rattle.scene.proofs.Sighting.{its-ray, its-own}
 use Rattle.scene.proofs.Going.{Going, begun, ended, spent, all-below, ready, stopped, down, down-less, open-room, opens, open-less}
-use Rattle.scene.proofs.Listed.{opened-last, root-last}
+use Rattle.scene.proofs.Listed.{both-pending, fewer, opened-last, root-last}
 use Rattle.scene.proofs.run.Statement.{statement}
 use Rattle.scene.proofs.run.Tie as tie
 
 abbrev Inv-loop : tie.InvT-loop
-Inv-loop triangles index boxes links ray nodes aim pending₀ last₀ a₀ pending last a = Going (lent triangles index boxes links) ray nodes pending a × (0 < pending .len → last ≡ getD (pending .nodes) (pending .len - 1) 0)
+Inv-loop triangles index boxes links ray nodes aim pending₀ last₀ a₀ pending last a = Going (lent triangles index boxes links) ray nodes pending a × (0 < pending .len → last ≡ getD (pending .nodes) (pending .len - 1) 0) × (length (pending .nodes) ≡ most-pending)
 
 abbrev μ-loop : tie.MeasureT-loop
 μ-loop triangles index boxes links ray nodes aim pending₀ last₀ a₀ pending last a = nodes - a .boxes
@@ -32,7 +32,7 @@ root-requires c κs = search needs
 loop-holds : tie.Need-loop-holds Inv-loop μ-loop
 loop-holds c =
     let S = c .before .before .before .before .before .before in
-    (begun _ _ _ (S .pre .0) (S .pre .1) (c .root .ensures .0) (c .root .ensures .1), λ h. sym (root-last _ _ (c .root .ensures .0) (c .root .ensures .1)))
+    (begun _ _ _ (S .pre .0) (S .pre .1) (c .root .ensures .0) (c .root .ensures .1), λ h. sym (root-last _ _ (c .root .ensures .0) (c .root .ensures .1)), c .root .ensures .2)
 
 sub-besides : tie.Need-sub-besides Inv-loop μ-loop
 sub-besides c = search needs
@@ -105,8 +105,9 @@ loop-again c =
     let v = d .before .before .before .before in
     let L = v .before .before .before in
     let l = L .loop in (
-      down _ _ _ (l .pending) (l .a) (l .inv .0) (v .before .before .loop-test .taken) (v .before .if1 .left) (v .visit .result) (seen v) (small L) (d .dropped .result) _ (d .before .before .next .given .1) (d .dropped .ensures .0) (d .dropped .ensures .1),
+      down _ _ _ (l .pending) (l .a) (l .inv .0) (v .before .before .loop-test .taken) (v .before .if1 .left) (v .visit .result) (seen v) (small L) (d .dropped .result) _ (d .before .before .next .given .1) (d .dropped .ensures .0) (fewer _ _ _ _ (d .dropped .ensures .0) (d .dropped .ensures .1)),
       λ h. ap (λ (k : ℕ). getD (d .dropped .result .nodes) (k - 1) 0) (sym (d .dropped .ensures .0)),
+      ap length (d .dropped .ensures .1) ∙ l .inv .2,
     )
 
 loop-less-2 : tie.Need-loop-less-2 Inv-loop μ-loop
@@ -123,19 +124,39 @@ loop-again-2 c =
     let v = d .before .before .before .before in
     let L = v .before .before .before in
     let l = L .loop in (
-      down _ _ _ (l .pending) (l .a) (l .inv .0) (v .before .before .loop-test .taken) (v .before .if1 .left) (v .visit .result) (seen v) (small L) (d .dropped .result) _ (d .before .before .next .given .1) (d .dropped .ensures .0) (d .dropped .ensures .1),
+      down _ _ _ (l .pending) (l .a) (l .inv .0) (v .before .before .loop-test .taken) (v .before .if1 .left) (v .visit .result) (seen v) (small L) (d .dropped .result) _ (d .before .before .next .given .1) (d .dropped .ensures .0) (fewer _ _ _ _ (d .dropped .ensures .0) (d .dropped .ensures .1)),
       λ h. absurd (omega (arith, h, c .if2 .left, d .dropped .ensures .0)),
+      ap length (d .dropped .ensures .1) ∙ l .inv .2,
     )
 
 enum-known-left : tie.Need-enum-known-left Inv-loop μ-loop
 enum-known-left c = search needs
 
-opened-requires : tie.Need-opened-requires Inv-loop μ-loop
-opened-requires c κs =
+-- two more are pending, and one fewer
+room : (c : tie.After-known-told3 Inv-loop μ-loop) → c .before .before .before .before .before .before .loop .pending .len < most-pending
+room c =
     let v = c .before .before .before in
     let L = v .before .before .before in
     let l = L .loop in
-    (v .before .before .loop-test .taken, open-room _ _ _ (l .pending) (l .a) (l .inv .0) (v .before .before .loop-test .taken) (v .before .if1 .left) (v .visit .result) (seen v) (small L) _ _ _ (c .before .left .given .1))
+    open-room _ _ _ (l .pending) (l .a) (l .inv .0) (v .before .before .loop-test .taken) (v .before .if1 .left) (v .visit .result) (seen v) (small L) _ _ _ (c .before .left .given .1)
+
+mul-pending : tie.Need-mul-pending Inv-loop μ-loop
+mul-pending c = omega (arith, room c)
+
+element-write-pending : tie.Need-element-write-pending Inv-loop μ-loop
+element-write-pending c = omega (arith, room c)
+
+add-pending : tie.Need-add-pending Inv-loop μ-loop
+add-pending c = omega (arith, room c)
+
+mul-pending-2 : tie.Need-mul-pending-2 Inv-loop μ-loop
+mul-pending-2 c = omega (arith, room c)
+
+element-write-pending-2 : tie.Need-element-write-pending-2 Inv-loop μ-loop
+element-write-pending-2 c = omega (arith, room c)
+
+opened-requires : tie.Need-opened-requires Inv-loop μ-loop
+opened-requires c κs = room c
 
 loop-less-3 : tie.Need-loop-less-3 Inv-loop μ-loop
 loop-less-3 c =
@@ -149,7 +170,12 @@ loop-again-3 c =
     let v = c .before .before .before .before in
     let L = v .before .before .before in
     let l = L .loop in
-    (opens _ _ _ (l .pending) (l .a) (l .inv .0) (v .before .before .loop-test .taken) (v .before .if1 .left) (v .visit .result) (seen v) (small L) (c .opened .result) _ _ _ (c .before .before .left .given .1) (c .opened .ensures .0) (c .opened .ensures .1), λ h. sym (opened-last _ _ _ _ _ (c .opened .ensures .0) (c .opened .ensures .1)))
+    let some = v .before .before .loop-test .taken in
+    let e = both-pending (l .pending .nodes) _ _ (l .pending .len) _ _ _ (l .inv .2) some (room (c .before)) (c .opened .ensures .0) (c .opened .ensures .1) in (
+      opens _ _ _ (l .pending) (l .a) (l .inv .0) some (v .before .if1 .left) (v .visit .result) (seen v) (small L) (c .opened .result) _ _ _ (c .before .before .left .given .1) (c .opened .ensures .0) (e .0),
+      λ h. sym (opened-last _ _ _ _ _ (c .opened .ensures .0) (e .0)),
+      e .1,
+    )
 
 over-requires : tie.Need-over-requires Inv-loop μ-loop
 over-requires c κs = search needs
@@ -182,6 +208,11 @@ run-spec =
     loop-less-2
     loop-again-2
     enum-known-left
+    mul-pending
+    element-write-pending
+    add-pending
+    mul-pending-2
+    element-write-pending-2
     opened-requires
     loop-less-3
     loop-again-3
