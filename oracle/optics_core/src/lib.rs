@@ -6,8 +6,8 @@
 //! direction as given; wavelength, energy and `Ray::new` are out.
 //!
 //! What the published files call is `#[inline]`, as nalgebra's is: without it
-//! `v[axis]` stays a call across crates, and the Rust is a third slower than
-//! its owners have it.
+//! `v[axis]` stays a call across crates, and the Rust's walk takes about a third
+//! longer.
 
 use std::ops::{Add, Div, Index, Mul, Neg, Sub};
 
