@@ -208,7 +208,7 @@ impl Corners {
 
 impl Crossing {
     // How far along the ray the triangle is met: the Rust's tests. Most triangles are missed by u or v, and a processor can't foretell by which of
-    // four tests; so one that says no less of them comes first, and leaves few.
+    // four tests; so one that fails only where one of those does comes first, and few are left for them.
     pub fn distance(self) -> Distance
         ensures { λ r. ⌜ r ≡ judged (self .det) (self .u) (self .v) (self .t) ⌝ }
     {
