@@ -10,6 +10,7 @@ use lib.Seq.{getD-set-same, getD-set-other}
 use lib.Dec.{eqb}
 use borrow.Author.Tests.{eq-eqb, eqb-true}
 use Rattle.order.proofs.Cases.{same?}
+use Rattle.builder.specs.Build.{upTo}
 use Rattle.builder.specs.Fallback.{insert, sorted}
 use Rattle.builder.specs.Heap.{Perm, hit, occ}
 use Rattle.builder.specs.Partition.{swapped}
@@ -56,6 +57,14 @@ pub occ-at : (xs : List ℕ) (i : ℕ) → i < length xs → 0 < occ (getD xs i 
 occ-at [] i h = absurd (omega arith)
 occ-at (x ∷ xs) zero h = omega (arith, hit-same x)
 occ-at (x ∷ xs) (suc i) h = omega (arith, occ-at xs i (omega arith))
+
+-- the numbers below n
+pub up-below : (n v : ℕ) → 0 < occ v (upTo n) → v < n
+unfolding upTo
+up-below zero v h = absurd (omega arith)
+up-below (suc n) v h =
+    let e = occ-append v (upTo n) (n ∷ []) in
+    ⊎-elim (λ p. omega arith) (λ p. let o : 0 < occ v (upTo n) = omega arith in let l = up-below n v o in omega arith) (hit-cases v n)
 
 pub each : (P : ℕ → Type 0) (xs : List ℕ) → ((i : ℕ) → i < length xs → P (getD xs i 0)) → (v : ℕ) → 0 < occ v xs → P v
 each P [] f v h = absurd (omega arith)

@@ -21,14 +21,13 @@ use Rattle.builder.specs.declared.Built.the-variants.{Tree as Grew, Refu
 use Rattle.builder.specs.declared.start.Found.{Found}
 use Rattle.builder.specs.declared.start.Found.the-variants.{At, Nothing}
 use Rattle.builder.specs.Build.{Outcome, built, checked, cramped, finished, firstRefused, outcome, room, upTo}
-use Rattle.builder.specs.Heap.{occ}
 use Rattle.builder.specs.Layout.{boxesOf, linksOf}
 use Rattle.builder.specs.Lists.{Accepted, Exact, Nested, Runs}
 use Rattle.builder.specs.Range.{boxFrom, nodeBox}
 use Rattle.builder.specs.Tree.{Grown, Tree, below, deepest, grow, leaves, most-triangles}
 use Rattle.builder.proofs.Enclosing.{Admitted, node-bounded}
 use Rattle.builder.proofs.Fills.{room-is}
-use Rattle.builder.proofs.Perm.{hit-cases, occ-append, occ-at}
+use Rattle.builder.proofs.Perm.{occ-at, up-below}
 use Rattle.builder.proofs.Placing.{Placed, boxes-length, held, links-length, child-of-one, placed, placed-same, same-numbers}
 use Rattle.builder.proofs.Rest.{boxes-rest, links-rest}
 use Rattle.builder.proofs.Trees.{Fine, Of-some, grown-fine}
@@ -128,13 +127,6 @@ up-length : (n : ℕ) → length (upTo n) ≡ n
 unfolding upTo
 up-length zero = refl
 up-length (suc n) = let e = up-length n in omega (arith, length-append (upTo n) (n ∷ []))
-
-up-below : (n v : ℕ) → 0 < occ v (upTo n) → v < n
-unfolding upTo
-up-below zero v h = absurd (omega arith)
-up-below (suc n) v h =
-    let e = occ-append v (upTo n) (n ∷ []) in
-    ⊎-elim (λ p. omega arith) (λ p. let o : 0 < occ v (upTo n) = omega arith in let l = up-below n v o in omega arith) (hit-cases v n)
 
 -- ---- every triangle is admitted
 refused-go : (m : List Float) (i k : ℕ) (t : Bool) → admittedTriangle (triangleAt m i) ≡ t → firstRefused m i (suc k) ≡ Nothing → (T t) × (firstRefused m (suc i) k ≡ Nothing)

@@ -18,7 +18,7 @@ use Rattle.builder.specs.declared.split.SplitDecision.the-variants.{Make
 use Rattle.builder.specs.Fallback.{ahead, ordered, separated}
 use Rattle.builder.specs.Heap.{Perm, occ}
 use Rattle.builder.specs.Lists.{In, Nested, Runs, boxOf, depth}
-use Rattle.builder.specs.Partition.{Parted, lower, moves, parted, swapped}
+use Rattle.builder.specs.Partition.{Parted, lower, moves, parted, parts, swapped}
 use Rattle.builder.specs.Range.{nodeBox}
 use Rattle.builder.specs.Tree.{Grown, Tree, below, decision, fork, grow, grownAs, joined, leaf}
 use Rattle.builder.proofs.Enclosing.{Admitted, node-bounded, node-inside}
@@ -47,6 +47,20 @@ separated-same : (m : List Float) (a : ℕ) (p : Float) (ids : List ℕ) → Per
 unfolding separated
 separated-same m a p ids =
     settled-by (λ (s : Parted). Perm (s .ids) ids) m a (parted m a p ids) (λ v. ordered-same m a (parted m a p ids .ids) v ∙ parted-same m a p ids v) (λ t v. parted-same m a p ids v)
+
+part-occ : (v k : ℕ) (xs : List ℕ) → occ v (take k xs) + occ v (drop k xs) ≡ occ v xs
+part-occ v k xs = sym (occ-append v (take k xs) (drop k xs)) ∙ ap (λ (z : List ℕ). occ v z) (take-append-drop k xs)
+
+-- ---- what every number of a range has, every number of both its parts has
+module _ (P : ℕ → Type 0) (m : List Float) (a : ℕ) (p : Float) (ids xs : List ℕ) (k : ℕ) (e : parts xs k ≡ separated m a p ids) (all : (v : ℕ) → 0 < occ v ids → P v) where
+  both-have : (v : ℕ) → 0 < occ v xs → P v
+  both-have v h = all v (subst (λ (n : ℕ). 0 < n) (ap (λ (s : Parted). occ v (s .ids)) e ∙ separated-same m a p ids v) h)
+
+  pub left-has : (j v : ℕ) → 0 < occ v (take j xs) → P v
+  left-has j v h = both-have v (omega (arith, h, part-occ v j xs))
+
+  pub right-has : (j v : ℕ) → 0 < occ v (drop j xs) → P v
+  right-has j v h = both-have v (omega (arith, h, part-occ v j xs))
 
 -- ---- a range cut at k, after it was put as xs
 pub record Cut (ids xs : List ℕ) (k : ℕ) : Type 0 where
@@ -103,9 +117,6 @@ pub record Fine (m : List Float) (d f : ℕ) (ids : List ℕ) (g : Grown) : Type
   pub box-is : boxOf (g .tree) ≡ nodeBox m ids
   pub nested : 0 < length ids → Admitted m ids → Nested (g .tree)
   pub none : length ids ≡ 0 → g .tree ≡ leaf (nodeBox m ids) f (length ids)
-
-part-occ : (v k : ℕ) (xs : List ℕ) → occ v (take k xs) + occ v (drop k xs) ≡ occ v xs
-part-occ v k xs = sym (occ-append v (take k xs) (drop k xs)) ∙ ap (λ (z : List ℕ). occ v z) (take-append-drop k xs)
 
 fine-leaf : (m : List Float) (d f : ℕ) (ids : List ℕ) → Fine m d f ids (grownAs (leaf (nodeBox m ids) f (length ids)) ids)
 fine-leaf m d f ids = record {

@@ -4,12 +4,13 @@ use crate::running;
 use aabb::Aabb;
 use aabb::Vec3;
 ghost use mathlib.Core.Path.{_≡_};
-ghost use Prim.Native.Nat.{ℕ, _+_, _*_, _≤_, _<_};
+ghost use Prim.Native.Nat.{ℕ, _+_, _*_, _/_, _≤_, _<_};
 ghost use lib.ListN.{length, getD, set, replicate};
 ghost use Rattle.order.specs.Number.{infinity};
 ghost use Rattle.aabb.specs.Vector.{along};
 ghost use Rattle.aabb.specs.Bounds.{union, boxAt};
 ghost use Rattle.builder.specs.Tree.{most-triangles};
+ghost use Rattle.builder.specs.Heap.{occ};
 ghost use Rattle.builder.specs.Layout.{boxPut};
 ghost use Rattle.builder.specs.Bins.{whole, noBin, joinBins, binOf, filled};
 ghost use Rattle.builder.specs.Lanes.{Clear, AllClear, binAt, lane, Lanes, Vacant};
@@ -137,6 +138,7 @@ pub fn fill(
     boxes: &mut [f64],
     counts: &mut [u32],
 )
+    requires { ⌜ ((v : ℕ) → 0 < occ v (now index) → v < length (now triangles) / 12) ⌝ }
     requires { ⌜ (length (now index) ≤ most-triangles) × Vacant (now boxes) (now counts) ⌝ }
     ensures { λ _. ⌜ Lanes most-triangles (now (boxes .exit)) (now (counts .exit)) ⌝ }
     ensures { λ _. ⌜ ((a : ℕ) → a < 3 → lane (now (boxes .exit)) (now (counts .exit)) (a * 16) 16 ≡ filled (now (triangles .entry)) a (along a min) (along a scale) (replicate 16 noBin) (now (index .entry))) ⌝ }

@@ -13,7 +13,7 @@ mod start; // start.rt: what is tested and written before and after the division
 use division::Made;
 use start::Found;
 ghost use mathlib.Core.Path.{_≡_};
-ghost use Prim.Native.Nat.{_+_, _*_, _≤_, _-_};
+ghost use Prim.Native.Nat.{_+_, _*_, _/_, _≤_, _-_};
 ghost use lib.ListN.{length};
 ghost use Rattle.builder.specs.Tree.{most-triangles, deepest, grow};
 ghost use Rattle.builder.specs.Build.{upTo, outcome, finished, built};
@@ -71,6 +71,7 @@ fn make(
     links: &mut [u32],
     n: usize,
 ) -> Built
+    requires { ⌜ n ≤ length (now triangles) / 12 ⌝ }
     requires { ⌜ (n ≤ most-triangles) × (n ≤ length (now index)) × ((1 + 2 * (n - 1)) * 6 ≤ length (now boxes)) × ((1 + 2 * (n - 1)) * 3 ≤ length (now links)) ⌝ }
     ensures { λ r. ⌜ outcome r (now (index .exit)) (now (boxes .exit)) (now (links .exit)) ≡ finished n (grow (now (triangles .entry)) deepest 0 (upTo n)) (now (index .entry)) (now (boxes .entry)) (now (links .entry)) ⌝ }
 {

@@ -1,13 +1,16 @@
 // What is asked of a range of triangle numbers: the boxes of its triangles and of their centroids, in one pass.
 use crate::running;
 use aabb::Aabb;
+use aabb::Vec3;
 use triangle::Corners;
 use triangle::Triangle;
 ghost use mathlib.Core.Path.{_≡_};
-ghost use Prim.Native.Nat.{_≤_, _<_};
+ghost use Prim.Native.Nat.{ℕ, _+_, _/_, _≤_, _<_};
 ghost use lib.ListN.{length};
 ghost use Rattle.builder.specs.Tree.{most-triangles};
 ghost use Rattle.builder.specs.Range.{nodeBox, centroidBox};
+ghost use Rattle.builder.specs.Heap.{occ};
+ghost use Rattle.aabb.specs.Vector.{vectorAt};
 ghost use Rattle.aabb.specs.Bounds.{ofThree};
 ghost use Rattle.triangle.specs.Mesh.{triangleAt, centroidAt};
 ghost use Rattle.builder.specs.Partition.{swapped};
@@ -18,11 +21,28 @@ pub struct Hull {
     pub centroids: Aabb,
 }
 
-// The vertices of a triangle.
+// Three numbers that are there.
+fn three(triangles: &[f64], at: usize) -> Vec3
+    requires { ⌜ at + 3 ≤ length (now triangles) ⌝ }
+    ensures { λ r. ⌜ r ≡ vectorAt (now (triangles .entry)) at ⌝ }
+{
+    Vec3 {
+        x: triangles[at],
+        y: triangles[at + 1],
+        z: triangles[at + 2],
+    }
+}
+
+// The vertices of a triangle that is there: with no case beyond the mesh's end, which `Corners::read` has, nothing is called in a pass over a range.
 pub fn corners(triangles: &[f64], i: u32) -> Corners
+    requires { ⌜ i < length (now triangles) / 12 ⌝ }
     ensures { λ r. ⌜ (r .v0 ≡ triangleAt (now (triangles .entry)) i .v0) × (r .v1 ≡ triangleAt (now (triangles .entry)) i .v1) × (r .v2 ≡ triangleAt (now (triangles .entry)) i .v2) ⌝ }
 {
-    Corners::read(triangles, wide(i))
+    let at = wide(i) * 12;
+    let v0 = three(triangles, at);
+    let v1 = three(triangles, at + 3);
+    let v2 = three(triangles, at + 6);
+    Corners { v0, v1, v2 }
 }
 
 // The box of the vertices.
@@ -32,7 +52,9 @@ pub fn box_of(t: Corners) -> Aabb
     running::around_three(t.v0, t.v1, t.v2)
 }
 
+// Both boxes of a range of triangles that are there.
 pub fn around(triangles: &[f64], index: &[u32]) -> Hull
+    requires { ⌜ ((v : ℕ) → 0 < occ v (now index) → v < length (now triangles) / 12) ⌝ }
     requires { ⌜ length (now index) ≤ most-triangles ⌝ }
     ensures { λ r. ⌜ (r .bounds ≡ nodeBox (now (triangles .entry)) (now (index .entry))) × (r .centroids ≡ centroidBox (now (triangles .entry)) (now (index .entry))) ⌝ }
 {

@@ -6,13 +6,14 @@ use aabb::Aabb;
 use aabb::Vec3;
 ghost use mathlib.Core.Path.{_≡_};
 ghost use mathlib.Core.List.{List};
-ghost use Prim.Native.Nat.{ℕ, _*_, _≤_, _<_};
+ghost use Prim.Native.Nat.{ℕ, _*_, _/_, _≤_, _<_};
 ghost use lib.ListN.{length, replicate};
 ghost use lib.Ieee.{Float, div, sub, binary64};
 ghost use Rattle.order.specs.Number.{sixteen};
 ghost use Rattle.aabb.specs.Vector.{along};
 ghost use Rattle.builder.specs.Tree.{most-triangles};
 ghost use Rattle.builder.specs.Bins.{noBin, filled};
+ghost use Rattle.builder.specs.Heap.{occ};
 ghost use Rattle.builder.specs.Lanes.{lane, Lanes};
 ghost use Rattle.builder.specs.Choice.{weight, betterOf, sweepFrom, tryAxis, bestSplit};
 
@@ -144,6 +145,7 @@ fn scale(span: f64) -> f64
 
 // The best split of the range whose boxes are given, or none.
 pub fn find_best_split(triangles: &[f64], index: &[u32], hull: Hull) -> SplitDecision
+    requires { ⌜ ((v : ℕ) → 0 < occ v (now index) → v < length (now triangles) / 12) ⌝ }
     requires { ⌜ length (now index) ≤ most-triangles ⌝ }
     ensures { λ r. ⌜ r ≡ bestSplit (now (triangles .entry)) (now (index .entry)) (hull .bounds) (hull .centroids) ⌝ }
 {

@@ -53,10 +53,13 @@ enum-told c = search needs
 
 make-requires : tie.Need-make-requires
 make-requires c κs = (
-  c .before .before .before .before .before .before .before .before .before .before .if2 .left,
-  c .before .before .before .before .before .before .before .before .before .if3 .left,
-  omega (arith, room-is (length (c .before .before .before .before .before .before .before .before .before .before .before .before .before .before .before .before .args .triangles .now) / 12), c .before .before .before .before .before .before .before .before .room .ensures, c .before .before .before .before .before .before .before .if4 .left),
-  omega (arith, room-is (length (c .before .before .before .before .before .before .before .before .before .before .before .before .before .before .before .before .args .triangles .now) / 12), c .before .before .before .before .before .before .before .before .room .ensures, c .before .before .before .before .before .before .if5 .left),
+  omega arith,
+  (
+    c .before .before .before .before .before .before .before .before .before .before .if2 .left,
+    c .before .before .before .before .before .before .before .before .before .if3 .left,
+    omega (arith, room-is (length (c .before .before .before .before .before .before .before .before .before .before .before .before .before .before .before .before .args .triangles .now) / 12), c .before .before .before .before .before .before .before .before .room .ensures, c .before .before .before .before .before .before .before .if4 .left),
+    omega (arith, room-is (length (c .before .before .before .before .before .before .before .before .before .before .before .before .before .before .before .before .args .triangles .now) / 12), c .before .before .before .before .before .before .before .before .room .ensures, c .before .before .before .before .before .before .if5 .left),
+  ),
 )
 
 same-length : tie.Need-same-length

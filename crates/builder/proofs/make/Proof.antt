@@ -1,6 +1,6 @@
 -- The front of the index list is counted up and divided; then its answer, or every buffer cleared. Assumes nothing.
 use mathlib.Core.Path.{_∙_, ap, subst}
-use Prim.Native.Nat.{ℕ, _-_}
+use Prim.Native.Nat.{ℕ, _-_, _<_}
 use native.Mathlib.Omega.{arith}
 use mathlib.Core.List.{List, _++_}
 use lib.ListN.{length, drop, replicate}
@@ -8,9 +8,11 @@ use lib.Ieee.{Float, le}
 use borrow.Rule.Slice.PartMut.{postOf}
 use Rattle.order.specs.Number.{nought}
 use Rattle.builder.specs.Build.{upTo}
+use Rattle.builder.specs.Heap.{occ}
 use Rattle.builder.specs.Layout.{Divided}
 use Rattle.builder.specs.Tree.{deepest, grow}
 use Rattle.builder.proofs.Heaps.{lent}
+use Rattle.builder.proofs.Perm.{up-below}
 use Rattle.builder.proofs.Whole.{c-length, front-length-is, lent-again, made-deep, made-done, rest-again, twice-length}
 use borrow.Author.Needs.{needs}
 use Rattle.builder.proofs.make.Statement.{statement}
@@ -41,9 +43,10 @@ subdivide-requires : tie.Need-subdivide-requires
 subdivide-requires c κs =
     let a = c .before .before .before .before .before .before .before .before .before .before .before .args in
     let u = c .before .before .before .before .before .count-up in
-    let le = c .before .before .before .before .before .before .before .before .before .before .before .pre .1 in
+    let le = c .before .before .before .before .before .before .before .before .before .before .before .pre .1 .1 in
     let part = ap length (lent-again (a .index .now) (u .last .0) (a .n) le (u .kept .0)) ∙ c-length (a .index .now) (u .last .0) (a .n) le (u .kept .0) in
-    ((omega (arith, part, c .before .before .before .before .before .before .before .before .before .before .before .pre), omega (arith, part, c .before .before .before .before .before .before .before .before .before .before .before .pre), omega (arith, part, c .before .before .before .before .before .before .before .before .before .before .before .pre)), (omega (arith, part, c .before .before .before .before .before .before .before .before .before .before .before .pre), omega (arith, part, c .before .before .before .before .before .before .before .before .before .before .before .pre)))
+    let counted = lent-again (a .index .now) (u .last .0) (a .n) le (u .kept .0) ∙ u .ensures ∙ ap upTo (front-length-is (a .index .now) (u .last .0) (a .n) le (u .kept .0)) in
+    (λ v i. let o = up-below (a .n) v (subst (λ (l : List ℕ). 0 < occ v l) counted i) in omega (arith, o, c .before .before .before .before .before .before .before .before .before .before .before .pre .0), ((omega (arith, part, c .before .before .before .before .before .before .before .before .before .before .before .pre .1), omega (arith, part, c .before .before .before .before .before .before .before .before .before .before .before .pre .1), omega (arith, part, c .before .before .before .before .before .before .before .before .before .before .before .pre .1)), (omega (arith, part, c .before .before .before .before .before .before .before .before .before .before .before .pre .1), omega (arith, part, c .before .before .before .before .before .before .before .before .before .before .before .pre .1))))
 
 enum-known-made : tie.Need-enum-known-made
 enum-known-made c = search needs
@@ -65,7 +68,7 @@ same-length c =
     let a = c .before .before .before .before .before .before .before .before .before .before .before .before .before .before .before .before .before .before .before .before .before .before .before .before .before .before .before .before .before .before .before .before .args in
     let u = c .before .before .before .before .before .before .before .before .before .before .before .before .before .before .before .before .before .before .before .before .before .before .before .before .before .before .count-up in
     let d = c .before .before .before .before .before .before .before .before .before .before .before .before .before .before .before .before .before .before .before .before .subdivide in
-    c .before .before .before .before .before .before .before .before .before .before .clear .kept .0 ∙ twice-length (a .index .now) (u .last .0) (a .n) (c .before .before .before .before .before .before .before .before .before .before .before .before .before .before .before .before .before .before .before .before .before .before .before .before .before .before .before .before .before .before .before .before .pre .1) (u .kept .0) (d .last .1 .0) (d .kept .1 .0)
+    c .before .before .before .before .before .before .before .before .before .before .clear .kept .0 ∙ twice-length (a .index .now) (u .last .0) (a .n) (c .before .before .before .before .before .before .before .before .before .before .before .before .before .before .before .before .before .before .before .before .before .before .before .before .before .before .before .before .before .before .before .before .pre .1 .1) (u .kept .0) (d .last .1 .0) (d .kept .1 .0)
 
 same-length-2 : tie.Need-same-length-2
 same-length-2 c = c .before .before .before .before .before .before .clear-floats .kept .0 ∙ c .before .before .before .before .before .before .before .before .before .before .before .before .before .before .before .before .before .before .before .before .subdivide .kept .1 .1 .0
@@ -78,7 +81,7 @@ returns c =
     let a = c .before .before .before .before .before .before .before .before .before .before .before .before .before .before .before .before .before .before .before .before .before .before .before .before .before .before .before .before .before .before .before .before .args in
     let u = c .before .before .before .before .before .before .before .before .before .before .before .before .before .before .before .before .before .before .before .before .before .before .before .before .before .before .count-up in
     let d = c .before .before .before .before .before .before .before .before .before .before .before .before .before .before .before .before .before .before .before .before .subdivide in
-    let le = c .before .before .before .before .before .before .before .before .before .before .before .before .before .before .before .before .before .before .before .before .before .before .before .before .before .before .before .before .before .before .before .before .pre .1 in
+    let le = c .before .before .before .before .before .before .before .before .before .before .before .before .before .before .before .before .before .before .before .before .before .before .before .before .before .before .before .before .before .before .before .before .pre .1 .1 in
     let lent = lent-again (a .index .now) (u .last .0) (a .n) le (u .kept .0) ∙ u .ensures ∙ ap upTo (front-length-is (a .index .now) (u .last .0) (a .n) le (u .kept .0)) in
     let laid = subst (λ (z : List ℕ). Divided (grow (a .triangles .now) deepest 0 z) 0 1 (a .boxes .now) (a .links .now) (d .result) (d .last .1 .0) (d .last .1 .1 .0) (d .last .1 .1 .1 .0)) lent (d .ensures) in
     let x = c .before .before .before .before .before .before .before .before .before .before .clear in
@@ -97,7 +100,7 @@ same-length-4 c =
     let a = c .before .before .before .before .before .before .before .before .before .before .before .before .before .before .before .before .before .before .before .before .before .args in
     let u = c .before .before .before .before .before .before .before .before .before .before .before .before .before .before .before .count-up in
     let d = c .before .before .before .before .before .before .before .before .before .subdivide in
-    twice-length (a .index .now) (u .last .0) (a .n) (c .before .before .before .before .before .before .before .before .before .before .before .before .before .before .before .before .before .before .before .before .before .pre .1) (u .kept .0) (d .last .1 .0) (d .kept .1 .0)
+    twice-length (a .index .now) (u .last .0) (a .n) (c .before .before .before .before .before .before .before .before .before .before .before .before .before .before .before .before .before .before .before .before .before .pre .1 .1) (u .kept .0) (d .last .1 .0) (d .kept .1 .0)
 
 same-length-5 : tie.Need-same-length-5
 same-length-5 c = c .before .before .before .before .before .before .before .before .before .subdivide .kept .1 .1 .0
@@ -110,7 +113,7 @@ returns-2 c =
     let a = c .before .before .before .before .before .before .before .before .before .before .before .before .before .before .before .before .before .before .before .before .before .args in
     let u = c .before .before .before .before .before .before .before .before .before .before .before .before .before .before .before .count-up in
     let d = c .before .before .before .before .before .before .before .before .before .subdivide in
-    let le = c .before .before .before .before .before .before .before .before .before .before .before .before .before .before .before .before .before .before .before .before .before .pre .1 in
+    let le = c .before .before .before .before .before .before .before .before .before .before .before .before .before .before .before .before .before .before .before .before .before .pre .1 .1 in
     let lent = lent-again (a .index .now) (u .last .0) (a .n) le (u .kept .0) ∙ u .ensures ∙ ap upTo (front-length-is (a .index .now) (u .last .0) (a .n) le (u .kept .0)) in
     let laid = subst (λ (z : List ℕ). Divided (grow (a .triangles .now) deepest 0 z) 0 1 (a .boxes .now) (a .links .now) (d .result) (d .last .1 .0) (d .last .1 .1 .0) (d .last .1 .1 .1 .0)) lent (d .ensures) in
     let m = c .before .made .given in

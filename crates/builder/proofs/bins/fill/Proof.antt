@@ -8,6 +8,7 @@ use Rattle.builder.specs.Lanes.{Lanes}
 use Rattle.builder.specs.Tree.{most-triangles}
 use Rattle.builder.proofs.Lanes.{lanes-up}
 use Rattle.builder.proofs.Passes.{bounds-by, centroid-by}
+use Rattle.builder.proofs.Perm.{occ-at}
 use Rattle.builder.proofs.Three.{Ahead, ahead-again, ahead-end, ahead-start, one-more, three-more, two-more}
 use borrow.Author.Needs.{needs}
 use Rattle.builder.proofs.bins.fill.Statement.{statement}
@@ -22,8 +23,8 @@ abbrev μ-loop : tie.MeasureT-loop
 loop-holds : tie.Need-loop-holds Inv-loop μ-loop
 loop-holds c =
     let a = c .before .before .before .before .args in
-    let v = c .before .before .before .before .pre .1 in
-    (search needs, v .lanes, ahead-start (a .triangles .now) (a .min) (a .scale) (a .index .now) (a .boxes .now) (a .counts .now) v, c .before .before .before .before .pre .0, v .lanes .boxes-long, v .lanes .counts-long)
+    let v = c .before .before .before .before .pre .1 .1 in
+    (search needs, v .lanes, ahead-start (a .triangles .now) (a .min) (a .scale) (a .index .now) (a .boxes .now) (a .counts .now) v, c .before .before .before .before .pre .1 .0, v .lanes .boxes-long, v .lanes .counts-long)
 
 mul-corners : tie.Need-mul-corners Inv-loop μ-loop
 mul-corners c = search needs
@@ -32,7 +33,9 @@ shared-slice-read-corners : tie.Need-shared-slice-read-corners Inv-loop μ-loop
 shared-slice-read-corners c = omega (arith, c .before .loop-test .taken)
 
 corners-requires : tie.Need-corners-requires Inv-loop μ-loop
-corners-requires c κs = search needs
+corners-requires c κs =
+    let s = c .before .before .before .before .before .before .before in
+    s .pre .0 _ (occ-at (s .args .index .now) (c .before .before .loop .i) (c .before .loop-test .taken))
 
 centroid-requires : tie.Need-centroid-requires Inv-loop μ-loop
 centroid-requires c κs = search needs

@@ -1,14 +1,16 @@
 -- Each return is a case of the tree: a leaf, too deep, a left half too deep, both halves. The measure is the depth that is left. Assumes nothing.
-use mathlib.Core.Path.{_∙_, ap}
-use Prim.Native.Nat.{ℕ, _-_, _≤_, _<_}
+use mathlib.Core.Path.{_∙_, ap, subst}
+use Prim.Native.Nat.{ℕ, _-_, _/_, _≤_, _<_}
 use native.Mathlib.Omega.{arith}
-use mathlib.Core.List.{_++_}
+use mathlib.Core.List.{List, _++_}
 use lib.ListN.{length, length-drop}
 use lib.Seq.{length-take-le}
 use lib.Ieee.{le}
 use borrow.Rule.Slice.PartMut.{midOf, postOf, putMid}
 use Rattle.builder.specs.Build.{room}
+use Rattle.builder.specs.Heap.{occ}
 use Rattle.builder.proofs.Growing.{Mid, both-halves, divided-both, divided-deep, divided-leaf, divided-left, halves-length, left-room, mid, right-room, second-half, then-room}
+use Rattle.builder.proofs.Trees.{left-has, right-has}
 use borrow.Author.Needs.{needs}
 use borrow.Fn.Kinds.{In}
 use borrow.Fn.PlainCycle.{Measures, is, falls, and}
@@ -50,13 +52,13 @@ calls t = (
 )
 
 subdivide-around-requires : (t : ℕ) → subdivide-lts.Need-around-requires (calls t) (subdivide-at t) subdivide.Post
-subdivide-around-requires t c κs = omega (arith, c .before .before .before .before .before .pre .1 .0)
+subdivide-around-requires t c κs = let p = c .before .before .before .before .before .pre .1 in (p .0, omega (arith, p .1 .0))
 
 subdivide-put-box-requires : (t : ℕ) → subdivide-lts.Need-put-box-requires (calls t) (subdivide-at t) subdivide.Post
 subdivide-put-box-requires t c κs = search needs
 
 subdivide-find-best-split-requires : (t : ℕ) → subdivide-lts.Need-find-best-split-requires (calls t) (subdivide-at t) subdivide.Post
-subdivide-find-best-split-requires t c κs = omega (arith, c .before .before .before .before .before .before .before .before .before .before .before .pre .1 .0)
+subdivide-find-best-split-requires t c κs = let p = c .before .before .before .before .before .before .before .before .before .before .before .pre .1 in (p .0, omega (arith, p .1 .0))
 
 subdivide-enum-known-decision : (t : ℕ) → subdivide-lts.Need-enum-known-decision (calls t) (subdivide-at t) subdivide.Post
 subdivide-enum-known-decision t c = search needs
@@ -107,13 +109,13 @@ subdivide-returns-2 t c =
     divided-deep (a .triangles .now) (a .below) (a .first) (a .index .now) (h .result .bounds) (f .result) (a .node) (a .next) (a .boxes .now) (b .last .0) (a .links .now) (h .result .centroids) (h .ensures .0) (h .ensures .1) (f .ensures) (b .ensures) (d .0 .0) (d .0 .1 .0) (a .index .now) (b .last .0) (a .links .now) (d .1) (c .if1 .taken)
 
 subdivide-separate-requires : (t : ℕ) → subdivide-lts.Need-separate-requires (calls t) (subdivide-at t) subdivide.Post
-subdivide-separate-requires t c κs = omega (arith, c .before .before .before .before .before .before .before .before .before .before .before .before .before .before .before .before .before .pre .1 .0)
+subdivide-separate-requires t c κs = omega (arith, c .before .before .before .before .before .before .before .before .before .before .before .before .before .before .before .before .before .pre .1 .1 .0)
 
 subdivide-cast-put-link-3 : (t : ℕ) → subdivide-lts.Need-cast-put-link-3 (calls t) (subdivide-at t) subdivide.Post
-subdivide-cast-put-link-3 t c = omega (arith, c .before .before .before .before .before .before .before .before .before .before .before .before .before .before .before .before .before .before .before .before .before .pre .1 .0, c .before .before .before .before .before .before .before .before .before .before .before .before .before .before .before .before .before .before .before .before .before .pre .1 .1)
+subdivide-cast-put-link-3 t c = omega (arith, c .before .before .before .before .before .before .before .before .before .before .before .before .before .before .before .before .before .before .before .before .before .pre .1 .1 .0, c .before .before .before .before .before .before .before .before .before .before .before .before .before .before .before .before .before .before .before .before .before .pre .1 .1 .1)
 
 subdivide-put-link-requires-2 : (t : ℕ) → subdivide-lts.Need-put-link-requires-2 (calls t) (subdivide-at t) subdivide.Post
-subdivide-put-link-requires-2 t c κs = omega (arith, c .before .before .before .before .before .before .before .before .before .before .before .before .before .before .before .before .before .before .before .before .before .pre .1 .0, c .before .before .before .before .before .before .before .before .before .before .before .before .before .before .before .before .before .before .before .before .before .pre .1 .1)
+subdivide-put-link-requires-2 t c κs = omega (arith, c .before .before .before .before .before .before .before .before .before .before .before .before .before .before .before .before .before .before .before .before .before .pre .1 .1 .0, c .before .before .before .before .before .before .before .before .before .before .before .before .before .before .before .before .before .before .before .before .before .pre .1 .1 .1)
 
 subdivide-sub-subdivide : (t : ℕ) → subdivide-lts.Need-sub-subdivide (calls t) (subdivide-at t) subdivide.Post
 subdivide-sub-subdivide t c = search needs
@@ -132,7 +134,7 @@ subdivide-part-subdivide-end t c =
     omega (arith, q)
 
 subdivide-add-subdivide : (t : ℕ) → subdivide-lts.Need-add-subdivide (calls t) (subdivide-at t) subdivide.Post
-subdivide-add-subdivide t c = omega (arith, c .before .before .before .before .before .before .before .before .before .before .before .before .before .before .before .before .before .before .before .before .before .before .before .before .before .before .before .pre .1 .0, c .before .before .before .before .before .before .before .before .before .before .before .before .before .before .before .before .before .before .before .before .before .before .before .before .before .before .before .pre .1 .1)
+subdivide-add-subdivide t c = omega (arith, c .before .before .before .before .before .before .before .before .before .before .before .before .before .before .before .before .before .before .before .before .before .before .before .before .before .before .before .pre .1 .1 .0, c .before .before .before .before .before .before .before .before .before .before .before .before .before .before .before .before .before .before .before .before .before .before .before .before .before .before .before .pre .1 .1 .1)
 
 subdivide-sub-subdivide-2 : (t : ℕ) → subdivide-lts.Need-sub-subdivide-2 (calls t) (subdivide-at t) subdivide.Post
 subdivide-sub-subdivide-2 t c = omega (arith, c .before .before .before .before .before .before .before .before .before .before .before .if1 .left)
@@ -146,7 +148,7 @@ subdivide-subdivide-requires t c κs =
     let d = c .before .before .before .before .before .before .before .before .before .before .before .before .before .decision .given in
     let q : Mid (a .index .now) (s .last .1 .0) (s .result) = mid (a .triangles .now) (a .index .now) (h .result .bounds) (h .result .centroids) (f .result) (d .0 .0) (d .0 .1 .0) (s .last .1 .0) (s .result) (f .ensures) (d .1) (s .ensures) in
     let part = length-take-le (s .result - 0) (s .last .1 .0) (omega (arith, q)) in
-    (omega (arith, c .before .before .before .before .before .before .before .before .before .before .before .before .before .before .before .before .before .before .before .before .before .before .before .before .before .before .before .pre .0, c .before .before .before .before .before .before .before .before .before .before .before .if1 .left), left-room (a .first) (a .node) (a .next) (length (a .index .now)) (s .result) _ (length (a .boxes .now)) _ (length (a .links .now)) _ (q .low) (q .high) part (c .before .before .before .before .before .before .before .before .before .before .before .before .before .before .before .before .before .before .before .put-box .kept .0) (c .before .before .before .before .before .put-link2 .kept .0) (c .before .before .before .before .before .before .before .before .before .before .before .before .before .before .before .before .before .before .before .before .before .before .before .before .before .before .before .pre .1))
+    (omega (arith, c .before .before .before .before .before .before .before .before .before .before .before .before .before .before .before .before .before .before .before .before .before .before .before .before .before .before .before .pre .0, c .before .before .before .before .before .before .before .before .before .before .before .if1 .left), (left-has (λ (v : ℕ). v < length (a .triangles .now) / 12) (a .triangles .now) (d .0 .0) (d .0 .1 .0) (a .index .now) (s .last .1 .0) (s .result) (s .ensures) (c .before .before .before .before .before .before .before .before .before .before .before .before .before .before .before .before .before .before .before .before .before .before .before .before .before .before .before .pre .1 .0) (s .result - 0), left-room (a .first) (a .node) (a .next) (length (a .index .now)) (s .result) _ (length (a .boxes .now)) _ (length (a .links .now)) _ (q .low) (q .high) part (c .before .before .before .before .before .before .before .before .before .before .before .before .before .before .before .before .before .before .before .put-box .kept .0) (c .before .before .before .before .before .put-link2 .kept .0) (c .before .before .before .before .before .before .before .before .before .before .before .before .before .before .before .before .before .before .before .before .before .before .before .before .before .before .before .pre .1 .1)))
 
 subdivide-enum-known-one : (t : ℕ) → subdivide-lts.Need-enum-known-one (calls t) (subdivide-at t) subdivide.Post
 subdivide-enum-known-one t c = search needs
@@ -183,7 +185,7 @@ subdivide-mul-subdivide t c =
     let f = c .before .before .before .before .before .before .before .before .before .before .before .before .before .before .before .before .before .before .before .before .before .before .before .before .before .find-best-split in
     let d = c .before .before .before .before .before .before .before .before .before .before .before .before .before .before .before .before .before .before .before .before .before .before .before .decision .given in
     let q : Mid (a .index .now) (s .last .1 .0) (s .result) = mid (a .triangles .now) (a .index .now) (h .result .bounds) (h .result .centroids) (f .result) (d .0 .0) (d .0 .1 .0) (s .last .1 .0) (s .result) (f .ensures) (d .1) (s .ensures) in
-    omega (arith, q, c .before .before .before .before .before .before .before .before .before .before .before .before .before .before .before .before .before .before .before .before .before .before .before .before .before .before .before .before .before .before .before .before .before .before .before .before .before .pre .1 .0, c .before .before .before .before .before .before .before .before .before .before .before .before .before .before .before .before .before .before .before .before .before .before .before .before .before .before .before .before .before .before .before .before .before .before .before .before .before .pre .1 .1)
+    omega (arith, q, c .before .before .before .before .before .before .before .before .before .before .before .before .before .before .before .before .before .before .before .before .before .before .before .before .before .before .before .before .before .before .before .before .before .before .before .before .before .pre .1 .1 .0, c .before .before .before .before .before .before .before .before .before .before .before .before .before .before .before .before .before .before .before .before .before .before .before .before .before .before .before .before .before .before .before .before .before .before .before .before .before .pre .1 .1 .1)
 
 subdivide-sub-subdivide-3 : (t : ℕ) → subdivide-lts.Need-sub-subdivide-3 (calls t) (subdivide-at t) subdivide.Post
 subdivide-sub-subdivide-3 t c =
@@ -211,7 +213,7 @@ subdivide-part-subdivide-end-2 : (t : ℕ) → subdivide-lts.Need-part-subdivide
 subdivide-part-subdivide-end-2 t c = search needs
 
 subdivide-add-subdivide-2 : (t : ℕ) → subdivide-lts.Need-add-subdivide-2 (calls t) (subdivide-at t) subdivide.Post
-subdivide-add-subdivide-2 t c = omega (arith, c .before .before .before .before .before .before .before .before .before .before .before .before .before .before .before .before .before .before .before .before .before .before .before .before .before .before .before .before .before .before .before .before .before .before .before .before .before .before .before .before .pre .1 .0, c .before .before .before .before .before .before .before .before .before .before .before .before .before .before .before .before .before .before .before .before .before .before .before .before .before .before .before .before .before .before .before .before .before .before .before .before .before .before .before .before .pre .1 .1)
+subdivide-add-subdivide-2 t c = omega (arith, c .before .before .before .before .before .before .before .before .before .before .before .before .before .before .before .before .before .before .before .before .before .before .before .before .before .before .before .before .before .before .before .before .before .before .before .before .before .before .before .before .pre .1 .1 .0, c .before .before .before .before .before .before .before .before .before .before .before .before .before .before .before .before .before .before .before .before .before .before .before .before .before .before .before .before .before .before .before .before .before .before .before .before .before .before .before .before .pre .1 .1 .1)
 
 subdivide-add-subdivide-3 : (t : ℕ) → subdivide-lts.Need-add-subdivide-3 (calls t) (subdivide-at t) subdivide.Post
 subdivide-add-subdivide-3 t c =
@@ -221,7 +223,7 @@ subdivide-add-subdivide-3 t c =
     let f = c .before .before .before .before .before .before .before .before .before .before .before .before .before .before .before .before .before .before .before .before .before .before .before .before .before .before .before .before .find-best-split in
     let d = c .before .before .before .before .before .before .before .before .before .before .before .before .before .before .before .before .before .before .before .before .before .before .before .before .before .before .decision .given in
     let q : Mid (a .index .now) (s .last .1 .0) (s .result) = mid (a .triangles .now) (a .index .now) (h .result .bounds) (h .result .centroids) (f .result) (d .0 .0) (d .0 .1 .0) (s .last .1 .0) (s .result) (f .ensures) (d .1) (s .ensures) in
-    omega (arith, q, c .before .before .before .before .before .before .before .before .before .before .before .before .before .before .before .before .before .before .before .before .before .before .before .before .before .before .before .before .before .before .before .before .before .before .before .before .before .before .before .before .pre .1 .0, c .before .before .before .before .before .before .before .before .before .before .before .before .before .before .before .before .before .before .before .before .before .before .before .before .before .before .before .before .before .before .before .before .before .before .before .before .before .before .before .before .pre .1 .1)
+    omega (arith, q, c .before .before .before .before .before .before .before .before .before .before .before .before .before .before .before .before .before .before .before .before .before .before .before .before .before .before .before .before .before .before .before .before .before .before .before .before .before .before .before .before .pre .1 .1 .0, c .before .before .before .before .before .before .before .before .before .before .before .before .before .before .before .before .before .before .before .before .before .before .before .before .before .before .before .before .before .before .before .before .before .before .before .before .before .before .before .before .pre .1 .1 .1)
 
 subdivide-sub-subdivide-4 : (t : ℕ) → subdivide-lts.Need-sub-subdivide-4 (calls t) (subdivide-at t) subdivide.Post
 subdivide-sub-subdivide-4 t c = omega (arith, c .before .before .before .before .before .before .before .before .before .before .before .before .before .before .before .before .before .before .before .before .before .before .before .before .if1 .left)
@@ -241,7 +243,7 @@ subdivide-subdivide-requires-2 t c κs =
     let n = c .before .before .before .before .one .given in
     let half = ap length (second-half (s .last .1 .0) (o .last .1 .0) (s .result) le (o .kept .1 .0)) ∙ length-drop (s .result) (s .last .1 .0) ∙ ap (λ (z : ℕ). z - s .result) (q .len) in
     let room = then-room (a .triangles .now) (a .below) (a .first) (a .index .now) (h .result .bounds) (f .result) (a .node) (a .next) (a .boxes .now) (b .last .0) (a .links .now) (h .result .centroids) (h .ensures .0) (h .ensures .1) (f .ensures) (b .ensures) (d .0 .0) (d .0 .1 .0) (s .last .1 .0) (s .result) (k .last .0) (o .result) (o .last .1 .0) (o .last .1 .1 .0) (o .last .1 .1 .1 .0) (d .1) (s .ensures) (c .before .before .before .before .before .before .before .before .before .before .before .before .before .before .before .before .before .before .before .before .before .before .before .before .if1 .left) (k .ensures) (o .ensures) (n .0 .0) (n .1) le in
-    (omega (arith, c .before .before .before .before .before .before .before .before .before .before .before .before .before .before .before .before .before .before .before .before .before .before .before .before .before .before .before .before .before .before .before .before .before .before .before .before .before .before .before .before .pre .0, c .before .before .before .before .before .before .before .before .before .before .before .before .before .before .before .before .before .before .before .before .before .before .before .before .if1 .left), right-room (a .first) (a .node) (a .next) (length (a .index .now)) (s .result) _ (n .0 .0) (length (a .boxes .now)) _ (length (a .links .now)) _ (q .low) (q .high) half (room .0) (room .1) (o .kept .1 .1 .0 ∙ b .kept .0) (o .kept .1 .1 .1 .0 ∙ k .kept .0) (c .before .before .before .before .before .before .before .before .before .before .before .before .before .before .before .before .before .before .before .before .before .before .before .before .before .before .before .before .before .before .before .before .before .before .before .before .before .before .before .before .pre .1))
+    (omega (arith, c .before .before .before .before .before .before .before .before .before .before .before .before .before .before .before .before .before .before .before .before .before .before .before .before .before .before .before .before .before .before .before .before .before .before .before .before .before .before .before .before .pre .0, c .before .before .before .before .before .before .before .before .before .before .before .before .before .before .before .before .before .before .before .before .before .before .before .before .if1 .left), (λ v i. right-has (λ (v : ℕ). v < length (a .triangles .now) / 12) (a .triangles .now) (d .0 .0) (d .0 .1 .0) (a .index .now) (s .last .1 .0) (s .result) (s .ensures) (c .before .before .before .before .before .before .before .before .before .before .before .before .before .before .before .before .before .before .before .before .before .before .before .before .before .before .before .before .before .before .before .before .before .before .before .before .before .before .before .before .pre .1 .0) (s .result) v (subst (λ (l : List ℕ). 0 < occ v l) (second-half (s .last .1 .0) (o .last .1 .0) (s .result) le (o .kept .1 .0)) i), right-room (a .first) (a .node) (a .next) (length (a .index .now)) (s .result) _ (n .0 .0) (length (a .boxes .now)) _ (length (a .links .now)) _ (q .low) (q .high) half (room .0) (room .1) (o .kept .1 .1 .0 ∙ b .kept .0) (o .kept .1 .1 .1 .0 ∙ k .kept .0) (c .before .before .before .before .before .before .before .before .before .before .before .before .before .before .before .before .before .before .before .before .before .before .before .before .before .before .before .before .before .before .before .before .before .before .before .before .before .before .before .before .pre .1 .1)))
 
 subdivide-same-length-9 : (t : ℕ) → subdivide-lts.Need-same-length-9 (calls t) (subdivide-at t) subdivide.Post
 subdivide-same-length-9 t c = omega (arith, c .before .before .before .before .before .index3, c .before .before .before .before .before .before .before .before .before .before .before .before .before .before .before .before .before .before .index2, c .before .before .before .before .before .before .before .before .before .before .before .before .before .before .before .before .before .before .before .before .before .before .before .before .before .before .before .before .before .separate .kept)

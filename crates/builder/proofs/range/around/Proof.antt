@@ -7,6 +7,7 @@ use Rattle.triangle.specs.Mesh.{triangleAt}
 use Rattle.builder.specs.Range.{boxFrom, centroidBox, centroidsFrom, nodeBox}
 use Rattle.builder.specs.Lanes.{Clear}
 use Rattle.builder.proofs.Passes.{bounds-by, box-again, box-end, box-start, centroid-by, centroids-again, centroids-end, centroids-start}
+use Rattle.builder.proofs.Perm.{occ-at}
 use borrow.Author.Needs.{needs}
 use Rattle.builder.proofs.range.around.Statement.{statement}
 use Rattle.builder.proofs.range.around.Tie as tie
@@ -35,7 +36,9 @@ shared-slice-read-corners : tie.Need-shared-slice-read-corners Inv-loop μ-loop
 shared-slice-read-corners c = search needs
 
 corners-requires : tie.Need-corners-requires Inv-loop μ-loop
-corners-requires c κs = search needs
+corners-requires c κs =
+    let s = c .before .before .before .before .before .before .before in
+    s .pre .0 _ (occ-at (s .args .index .now) (c .before .before .loop .i) (c .before .loop-test .taken))
 
 box-of-requires : tie.Need-box-of-requires Inv-loop μ-loop
 box-of-requires c κs = search needs
@@ -50,7 +53,7 @@ grown-requires : tie.Need-grown-requires Inv-loop μ-loop
 grown-requires c κs = c .before .before .before .before .before .before .loop .inv .3
 
 add-i : tie.Need-add-i Inv-loop μ-loop
-add-i c = omega (arith, c .before .before .before .before .before .before .loop-test .taken, c .before .before .before .before .before .before .before .before .before .before .before .before .pre)
+add-i c = omega (arith, c .before .before .before .before .before .before .loop-test .taken, c .before .before .before .before .before .before .before .before .before .before .before .before .pre .1)
 
 loop-less : tie.Need-loop-less Inv-loop μ-loop
 loop-less c = omega (arith, c .before .before .before .before .before .before .loop-test .taken)

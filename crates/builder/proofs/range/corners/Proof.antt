@@ -1,20 +1,20 @@
--- They are those of the triangle with the same number. Assumes nothing.
+-- Each vertex is the one at its place. Assumes nothing.
+use Rattle.triangle.specs.Mesh.{triangleAt}
 use Rattle.builder.proofs.Passes.{corners-same}
 use borrow.Author.Needs.{needs}
 use Rattle.builder.proofs.range.corners.Statement.{statement}
 use Rattle.builder.proofs.range.corners.Tie as tie
 
-wide-requires : tie.Need-wide-requires
-wide-requires c κs = search needs
-
-read-requires : tie.Need-read-requires
-read-requires c κs = search needs
-
 returns : tie.Need-returns
+unfolding triangleAt
 returns c =
-    let a = c .before .before .before .args in
-    let w = c .before .wide in
-    corners-same (a .triangles .now) (a .i) (w .result) _ _ _ (w .ensures) (c .read .ensures .0) (c .read .ensures .1) (c .read .ensures .2)
+    let w = c .before .before .before .wide in
+    corners-same (c .before .before .before .before .before .args .triangles .now) (c .before .before .before .before .before .args .i) (w .result) _ _ _ (w .ensures) (c .before .before .three .ensures) (c .before .three2 .ensures) (c .three3 .ensures)
 
 pub corners-spec : {M : Type 1} → statement M
-corners-spec = tie.close (tie.spec wide-requires read-requires returns)
+corners-spec =
+    tie.close
+    (tie.spec
+    (λ c κs. search needs) (λ c. search needs) (λ c κs. search needs) (λ c. search needs) (λ c κs. search needs)
+    (λ c. search needs) (λ c κs. search needs)
+    returns)

@@ -59,7 +59,7 @@ slice-aggregate-fill-2 : tie.Need-slice-aggregate-fill-2
 slice-aggregate-fill-2 c = refl
 
 fill-requires : tie.Need-fill-requires
-fill-requires c κs = (c .before .before .before .before .before .before .before .before .before .before .before .before .before .before .before .before .before .pre, c .before .before .before .vacate .ensures)
+fill-requires c κs = let p = c .before .before .before .before .before .before .before .before .before .before .before .before .before .before .before .before .before .pre in (p .0, (p .1, c .before .before .before .vacate .ensures))
 
 slice-aggregate-try-axis : tie.Need-slice-aggregate-try-axis
 slice-aggregate-try-axis c = sym (c .before .before .before .fill .ensures .0 .boxes-long)
