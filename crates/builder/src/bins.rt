@@ -61,16 +61,20 @@ fn upper(row: Row, half: u8, width: f64, x: f64) -> Row
     row
 }
 
-// The greatest whole k in 0..15 with k <= x, by four halvings: the cast to `usize` of the Rust, and its `min`.
-pub fn bin_of(x: f64) -> u8
+// The greatest whole k in 0..15 with k <= x, by four halvings: the cast to `usize` of the Rust, and its `min`. Three of them are worked out in floats alone; the
+// cast of a whole number loses nothing.
+pub fn bin_of(x: f64) -> u32
     ensures { λ r. ⌜ (r ≡ binOf 15 x) × (r ≤ 15) ⌝ }
 {
     let sixteen = Row { first: 0, low: 0.0 };
     let eight = upper(sixteen, 8, 8.0, x);
     let four = upper(eight, 4, 4.0, x);
     let two = upper(four, 2, 2.0, x);
-    let one = upper(two, 1, 1.0, x);
-    one.first
+    let k = two.low as u32;
+    if two.low + 1.0 <= x {
+        return k + 1;
+    }
+    k
 }
 
 // Bin k of the lent bins, six numbers of box each and a count.
