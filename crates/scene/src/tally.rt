@@ -48,7 +48,7 @@ pub fn nearer(best: Nearest, number: u32, found: Distance) -> Nearest
     }
 }
 
-// The hit so far, after the test of one triangle more.
+// The hit so far, after the test of one triangle more. `Corners::distance` does the same two calls; made here, both are compiled into the walk's loop.
 pub fn after(triangles: &[f64], ray: Ray, number: u32, best: Nearest) -> Nearest
     ensures { λ r. ⌜ r ≡ after (now (triangles .entry)) ray number best ⌝ }
 {
