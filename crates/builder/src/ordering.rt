@@ -33,24 +33,22 @@ pub struct Child {
     pub own: Ranked,
 }
 
-// Whether triangle a comes before triangle b. Numbers that differ, and equal ones but zeros, are told by comparisons; `total_cmp` for the rest.
+// Whether triangle a comes before triangle b. Equal numbers but zeros, most of those that are put in order, and numbers that differ are told by comparisons; `total_cmp` for the rest.
 pub fn is_ahead(a: Ranked, b: Ranked) -> bool
     ensures { λ r. ⌜ ((at : ℕ → Float) → a .centroid ≡ at (a .number) → b .centroid ≡ at (b .number) → r ≡ ahead at (a .number) (b .number)) ⌝ }
 {
     let x = a.centroid;
     let y = b.centroid;
+    if x == y {
+        if x != 0.0 {
+            return a.number < b.number;
+        }
+    }
     if x < y {
         return true;
     }
     if y < x {
         return false;
-    }
-    if x == y {
-        if x != 0.0 {
-            if y != 0.0 {
-                return a.number < b.number;
-            }
-        }
     }
     if order::total_less(x, y) {
         return true;

@@ -22,7 +22,7 @@ unfolding eq
 is-zero true e = simp (zero-mul, eq-eqb 0 0 refl)
 is-zero false e = simp (zero-mul, eq-eqb 0 0 refl)
 
-and-true : (a b : Bool) → (a && b) ≡ true → a ≡ true
+pub and-true : (a b : Bool) → (a && b) ≡ true → a ≡ true
 and-true true b p = refl
 and-true false b p = p
 

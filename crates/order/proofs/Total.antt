@@ -1,20 +1,23 @@
 -- `totalLess` is a weak order, as sorting needs it, since it is one weak order after another; and what code tests is what it says.
 -- Assumes nothing.
 use mathlib.Core.Path.{_≡_, refl, sym, _∙_, ap}
-use Prim.Native.Nat.{zero, suc}
-use mathlib.Core.Bool.{Bool, true, false, cond, not, _&&_, _||_}
+use Prim.Native.Nat.{ℕ, zero, suc, _+_, _*_}
+use native.Mathlib.Nat.{mul-pos, zero-lt-suc, zero-mul}
+use native.Mathlib.Omega.{arith}
+use mathlib.Core.Bool.{Bool, true, false, cond, not, _&&_, _||_, Bool·beq}
 use lib.IntN.{pos}
-use lib.Dec.{T}
-use lib.Ieee.{Float, nan, inf, fin, lt, eq, ne, div, isNan, binary64}
+use lib.Dec.{T, eqb}
+use lib.Ieee.{Float, nan, inf, fin, up, down, below, level, lt, eq, ne, div, isNan, binary64}
+use lib.Ieee.Fits.{up-pos, down-pos}
 use lib.Ieee.Bits.{is-true, is-false}
-use borrow.Author.Tests.{not-true}
+use borrow.Author.Tests.{not-true, eqb-true, le-ltb}
 use Rattle.order.specs.Number.{real, nought, one}
 use Rattle.order.specs.Total.{lex, lessNumber, minusZero, lessZero, totalLess}
 use Rattle.order.proofs.Cases.{true-is, false-is}
 use Rattle.order.proofs.Numbers.{nought-is, one-is}
 use Rattle.order.proofs.Order.{clash, lt→le, le→real-l, le→real-r, le→not-lt, not-lt→le, le-trans}
 use Rattle.order.proofs.Pick.{nan-test}
-use Rattle.order.proofs.Absolute.{is-zero, not-zero}
+use Rattle.order.proofs.Absolute.{and-true, is-zero, not-zero}
 
 -- ---- first by R, then by S
 pub lex-false : (r q s : Bool) → (r || (not q && s)) ≡ false → (r ≡ false) × (q ≡ false → s ≡ false)
@@ -172,6 +175,55 @@ unfolding totalLess ne
 total-level x y p r z =
     false-lex (lessNumber x y) (lessNumber y x) (lessZero x y) (level-number x y p (r .0) (r .1))
     (λ e. level-zero x y (sym (zero-none x (not-true (eq x nought) z))))
+
+-- ---- of equal numbers neither is less, and where one isn't zero neither is the other
+and-last : (a b : Bool) → (a && b) ≡ true → b ≡ true
+and-last true b p = p
+and-last false b p = clash false p refl
+
+level-both : (s : Bool) (a : ℕ) (t : Bool) (b : ℕ) → level s a t b ≡ true → (below s a t b ≡ false) × (below t b s a ≡ false)
+level-both s a t b p = go s t (eqb-true a b (and-true (eqb a b) _ p)) (and-last (eqb a b) _ p)
+  where
+    go : (s t : Bool) → a ≡ b → (Bool·beq s t || eqb a 0) ≡ true → (below s a t b ≡ false) × (below t b s a ≡ false)
+    go false false e z = (le-ltb a b (omega (arith, e)), le-ltb b a (omega (arith, e)))
+    go true true e z = (le-ltb b a (omega (arith, e)), le-ltb a b (omega (arith, e)))
+    go false true e z = (refl, le-ltb 0 (b + a) (omega (arith, e, eqb-true a 0 z)))
+    go true false e z = (le-ltb 0 (a + b) (omega (arith, e, eqb-true a 0 z)), refl)
+
+pub level-lt : (x y : Float) → eq x y ≡ true → (lt x y ≡ false) × (lt y x ≡ false)
+unfolding eq lt
+level-lt nan y p = clash false p refl
+level-lt (inf s) nan p = clash false p refl
+level-lt (inf false) (inf false) p = (refl, refl)
+level-lt (inf true) (inf true) p = (refl, refl)
+level-lt (inf false) (inf true) p = clash false p refl
+level-lt (inf true) (inf false) p = clash false p refl
+level-lt (inf s) (fin t n d) p = clash false p refl
+level-lt (fin s m e) nan p = clash false p refl
+level-lt (fin s m e) (inf t) p = clash false p refl
+level-lt (fin s m e) (fin t n d) p = level-both s (m * up e * down d) t (n * up d * down e) p
+
+level-ne : (x y : Float) → eq x y ≡ true → eq x (fin false 0 (pos 0)) ≡ false → eq y (fin false 0 (pos 0)) ≡ false
+unfolding eq
+level-ne nan y p q = clash false p refl
+level-ne (inf s) nan p q = clash false p refl
+level-ne (inf s) (inf t) p q = refl
+level-ne (inf s) (fin t n d) p q = clash false p refl
+level-ne (fin s m e) nan p q = refl
+level-ne (fin s m e) (inf t) p q = refl
+level-ne (fin s m e) (fin t (suc n) d) p q = go (eq (fin t (suc n) d) (fin false 0 (pos 0))) refl
+  where
+    go : (b : Bool) → eq (fin t (suc n) d) (fin false 0 (pos 0)) ≡ b → b ≡ false
+    go false h = refl
+    go true h = not-zero t n d h
+level-ne (fin s zero e) (fin t zero d) p q = clash (eq (fin s zero e) (fin false 0 (pos 0))) (is-zero s e) q
+level-ne (fin s (suc m) e) (fin t zero d) p q =
+    absurd (omega (arith, zero-mul (up d), zero-mul (down e), eqb-true (suc m * up e * down d) (0 * up d * down e) (and-true (eqb (suc m * up e * down d) (0 * up d * down e)) _ p), mul-pos (mul-pos (zero-lt-suc m) (up-pos e)) (down-pos d)))
+
+pub level-nonzero : (x y : Float) → eq x y ≡ true → ne x nought ≡ true → ne y nought ≡ true
+unfolding ne
+level-nonzero x y p z =
+    ap not (ap (λ (w : Float). eq y w) nought-is ∙ level-ne x y p (ap (λ (w : Float). eq x w) (sym nought-is) ∙ not-true (eq x nought) z))
 
 -- ---- two tests in a row
 pub lex-yes : (r q s : Bool) → r ≡ true → true ≡ (r || (not q && s))

@@ -1,7 +1,7 @@
 -- The tests are those of the order by centroid and then by number. Assumes nothing.
 use mathlib.Core.Path.{refl, sym, _∙_}
 use lib.Dec.{ltb}
-use Rattle.order.proofs.Total.{level-real, lex-next, lex-no, lex-yes}
+use Rattle.order.proofs.Total.{level-lt, level-nonzero, level-real, lex-next, lex-no, lex-yes}
 use Rattle.builder.specs.Fallback.{ahead, underAt}
 use Rattle.builder.proofs.Linear.{under-at, under-gt, under-level, under-lt}
 use borrow.Author.Needs.{needs}
@@ -11,10 +11,13 @@ use Rattle.builder.proofs.ordering.is_ahead.Tie as tie
 returns : tie.Need-returns
 unfolding ahead
 returns c = λ at p q.
-    let A = c .before .args in
-    let a = A .a .number in
-    let b = A .b .number in
-    lex-yes _ (underAt at b a) (ltb a b) (under-lt at a b _ _ p q (c .if1 .taken))
+    let A = c .before .before .before .before .args in
+    let x = A .a .centroid in
+    let y = A .b .centroid in
+    let same = c .before .before .before .if1 .taken in
+    let not-zero = c .before .before .if2 .taken in
+    let r = level-real x y same in
+    lex-next _ _ _ _ (under-level at (A .a .number) (A .b .number) _ _ p q (level-lt x y same .0) r not-zero) (under-level at (A .b .number) (A .a .number) _ _ q p (level-lt x y same .1) (r .1, r .0) (level-nonzero x y same not-zero)) refl
 
 returns-2 : tie.Need-returns-2
 unfolding ahead
@@ -22,16 +25,15 @@ returns-2 c = λ at p q.
     let A = c .before .before .args in
     let a = A .a .number in
     let b = A .b .number in
-    lex-no _ _ (ltb a b) (under-gt at a b _ _ p q (c .if2 .taken)) (under-lt at b a _ _ q p (c .if2 .taken))
+    lex-yes _ (underAt at b a) (ltb a b) (under-lt at a b _ _ p q (c .if3 .taken))
 
 returns-3 : tie.Need-returns-3
 unfolding ahead
 returns-3 c = λ at p q.
-    let A = c .before .before .before .before .before .before .before .args in
+    let A = c .before .before .before .args in
     let a = A .a .number in
     let b = A .b .number in
-    let r = level-real (A .a .centroid) (A .b .centroid) (c .before .before .before .before .if3 .taken) in
-    lex-next _ _ _ _ (under-level at a b _ _ p q (c .before .before .before .before .before .before .if1 .left) r (c .before .before .before .if4 .taken)) (under-level at b a _ _ q p (c .before .before .before .before .before .if2 .left) (r .1, r .0) (c .before .before .if5 .taken)) refl
+    lex-no _ _ (ltb a b) (under-gt at a b _ _ p q (c .if4 .taken)) (under-lt at b a _ _ q p (c .if4 .taken))
 
 total-less-requires : tie.Need-total-less-requires
 total-less-requires c κs = search needs
@@ -42,7 +44,7 @@ returns-4 c = λ at p q.
     let A = c .before .before .before .before .before .args in
     let a = A .a .number in
     let b = A .b .number in
-    lex-yes _ (underAt at b a) (ltb a b) (sym (under-at at a b _ _ _ _ _ (c .before .total-less .ensures) p q refl refl) ∙ c .if6 .taken)
+    lex-yes _ (underAt at b a) (ltb a b) (sym (under-at at a b _ _ _ _ _ (c .before .total-less .ensures) p q refl refl) ∙ c .if5 .taken)
 
 total-less-requires-2 : tie.Need-total-less-requires-2
 total-less-requires-2 c κs = search needs
@@ -53,7 +55,7 @@ returns-5 c = λ at p q.
     let A = c .before .before .before .before .before .before .before .args in
     let a = A .a .number in
     let b = A .b .number in
-    lex-no _ _ (ltb a b) (sym (under-at at a b _ _ _ _ _ (c .before .before .before .total-less .ensures) p q refl refl) ∙ c .before .before .if6 .left) (sym (under-at at b a _ _ _ _ _ (c .before .total-less2 .ensures) q p refl refl) ∙ c .if7 .taken)
+    lex-no _ _ (ltb a b) (sym (under-at at a b _ _ _ _ _ (c .before .before .before .total-less .ensures) p q refl refl) ∙ c .before .before .if5 .left) (sym (under-at at b a _ _ _ _ _ (c .before .total-less2 .ensures) q p refl refl) ∙ c .if6 .taken)
 
 returns-6 : tie.Need-returns-6
 unfolding ahead
@@ -61,7 +63,7 @@ returns-6 c = λ at p q.
     let A = c .before .before .before .before .before .before .before .before .before .args in
     let a = A .a .number in
     let b = A .b .number in
-    lex-next _ _ _ _ (sym (under-at at a b _ _ _ _ _ (c .before .before .before .before .before .total-less .ensures) p q refl refl) ∙ c .before .before .before .before .if6 .left) (sym (under-at at b a _ _ _ _ _ (c .before .before .before .total-less2 .ensures) q p refl refl) ∙ c .before .before .if7 .left) refl
+    lex-next _ _ _ _ (sym (under-at at a b _ _ _ _ _ (c .before .before .before .before .before .total-less .ensures) p q refl refl) ∙ c .before .before .before .before .if5 .left) (sym (under-at at b a _ _ _ _ _ (c .before .before .before .total-less2 .ensures) q p refl refl) ∙ c .before .before .if6 .left) refl
 
 pub is-ahead-spec : {M : Type 1} → statement M
 is-ahead-spec =
