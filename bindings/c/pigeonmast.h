@@ -1,6 +1,6 @@
 /* Pigeonmast: a box tree over triangles and its walk, proved in Rattle.
  *
- * Link with libexport.a (x86-64). A slice passes as a pointer and then its
+ * Link with libpigeonmast.a (x86-64). A slice passes as a pointer and then its
  * length in numbers; a fixed record passes as a pointer alone. What the caller
  * owes at each call:
  *

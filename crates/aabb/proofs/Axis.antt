@@ -5,7 +5,7 @@ use Prim.Native.Nat.{ℕ, zero, suc}
 use lib.Dec.{T}
 use lib.Ieee.{Float, le}
 use lib.Ieee.Fits.{and-l, and-r, and-i}
-use Rattle.order.specs.Pick.{magnitude, lesser, greater}
+use Rattle.float.specs.Pick.{magnitude, lesser, greater}
 use Rattle.aabb.specs.declared.vector.Vec3.{Vec3}
 use Rattle.aabb.specs.Vector.{along, all, within, allWithin, allAtMost, least, greatest}
 

@@ -6,13 +6,13 @@ use lib.Dec.{T}
 use lib.Ieee.{Float, nan, inf, fin, neg, lt, le, isNan}
 use lib.Ieee.Fits.{and-l, and-r, and-i}
 use lib.Ieee.Scale.{finite}
-use Rattle.order.specs.Number.{real, two-to-40, infinity}
-use Rattle.order.specs.Pick.{magnitude, lesser, greater}
-use Rattle.order.proofs.Cases.{or-l}
-use Rattle.order.proofs.Numbers.{infinity-is}
-use Rattle.order.proofs.Order.{finite-real, le-refl, le-trans}
-use Rattle.order.proofs.Bounds.{two-to-40-finite}
-use Rattle.order.proofs.Pick.{lesser-left, lesser-right, greater-left, greater-right}
+use Rattle.float.specs.Number.{real, two-to-40, infinity}
+use Rattle.float.specs.Pick.{magnitude, lesser, greater}
+use Rattle.float.proofs.Cases.{or-l}
+use Rattle.float.proofs.Numbers.{infinity-is}
+use Rattle.float.proofs.Order.{finite-real, le-refl, le-trans}
+use Rattle.float.proofs.Bounds.{two-to-40-finite}
+use Rattle.float.proofs.Pick.{lesser-left, lesser-right, greater-left, greater-right}
 use Rattle.aabb.specs.declared.vector.Vec3.{Vec3}
 use Rattle.aabb.specs.declared.bounds.Aabb.{Aabb}
 use Rattle.aabb.specs.Vector.{vec, along, all, within, allWithin, allAtMost, least, greatest}

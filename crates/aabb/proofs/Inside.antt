@@ -9,14 +9,14 @@ use lib.Dec.{T}
 use lib.Ieee.{Float, nan, inf, fin, binary64, sub, div, lt, le, eq, isNan}
 use lib.Ieee.Fits.{and-l, and-r}
 use lib.Ieee.Scale.{finite}
-use Rattle.order.specs.Number.{real, nought, one, two, two-to-40, trillionth, infinity}
-use Rattle.order.specs.Pick.{magnitude, lesser, greater}
-use Rattle.order.proofs.Cases.{not-l, not-r, not-i}
-use Rattle.order.proofs.Numbers.{nought-is, two-is, trillionth-is, infinity-is}
-use Rattle.order.proofs.Order.{gain, loss, finite-real, le→real-l, le→real-r, le→not-lt, not-lt→le, le-refl, le-trans}
-use Rattle.order.proofs.Monotone.{sub-mono, mul-mono, mul-anti, side}
-use Rattle.order.proofs.Bounds.{below-finite, power-finite, two-to-40-finite, sub-size, inverse-most}
-use Rattle.order.proofs.Pick.{greater-left, greater-right, greater-least, greater-mono, lesser-left, lesser-right, lesser-most, lesser-mono}
+use Rattle.float.specs.Number.{real, nought, one, two, two-to-40, trillionth, infinity}
+use Rattle.float.specs.Pick.{magnitude, lesser, greater}
+use Rattle.float.proofs.Cases.{not-l, not-r, not-i}
+use Rattle.float.proofs.Numbers.{nought-is, two-is, trillionth-is, infinity-is}
+use Rattle.float.proofs.Order.{gain, loss, finite-real, le→real-l, le→real-r, le→not-lt, not-lt→le, le-refl, le-trans}
+use Rattle.float.proofs.Monotone.{sub-mono, mul-mono, mul-anti, side}
+use Rattle.float.proofs.Bounds.{below-finite, power-finite, two-to-40-finite, sub-size, inverse-most}
+use Rattle.float.proofs.Pick.{greater-left, greater-right, greater-least, greater-mono, lesser-left, lesser-right, lesser-most, lesser-mono}
 use Rattle.aabb.specs.declared.vector.Ray.{Ray}
 use Rattle.aabb.specs.declared.bounds.Aabb.{Aabb}
 use Rattle.aabb.specs.declared.slab.Span.{Span}

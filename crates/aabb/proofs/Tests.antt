@@ -9,10 +9,10 @@ use lib.Dec.{T}
 use lib.IntN.{ℤ}
 use lib.ListN.{length, List·getD-eq-default}
 use lib.Ieee.{Float, nan, inf, fin, binary64, ofBits, add, sub, mul, div, neg, lt, le}
-use Rattle.order.specs.Number.{nought, one, two, trillionth, infinity}
-use Rattle.order.specs.Pick.{magnitude}
-use Rattle.order.proofs.Order.{under→le, le-trans}
-use Rattle.order.proofs.Total.{and-go, and-no}
+use Rattle.float.specs.Number.{nought, one, two, trillionth, infinity}
+use Rattle.float.specs.Pick.{magnitude}
+use Rattle.float.proofs.Order.{under→le, le-trans}
+use Rattle.float.proofs.Total.{and-go, and-no}
 use Rattle.aabb.specs.declared.vector.Vec3.{Vec3}
 use Rattle.aabb.specs.declared.bounds.Aabb.{Aabb}
 use Rattle.aabb.specs.declared.vector.Ray.{Ray}

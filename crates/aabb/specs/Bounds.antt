@@ -3,7 +3,7 @@ use Prim.Native.Nat.{ℕ, _+_, _*_}
 use mathlib.Core.Bool.{Bool, _&&_, _||_, cond}
 use mathlib.Core.List.{List}
 use lib.Ieee.{Float, binary64, add, mul, neg, lt}
-use Rattle.order.specs.Number.{nought, half, two, two-to-40, infinity}
+use Rattle.float.specs.Number.{nought, half, two, two-to-40, infinity}
 use Rattle.aabb.specs.declared.vector.Vec3.{Vec3}
 use Rattle.aabb.specs.declared.bounds.Aabb.{Aabb}
 use Rattle.aabb.specs.Vector.{vec, all, plus, minus, scaled, least, greatest, allWithin, allAtMost, allEqual, vectorAt}

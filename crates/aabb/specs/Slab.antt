@@ -2,8 +2,8 @@
 use Prim.Native.Nat.{ℕ, zero, suc}
 use mathlib.Core.Bool.{Bool, true, false, _||_, cond}
 use lib.Ieee.{Float, binary64, sub, mul, div, lt}
-use Rattle.order.specs.Number.{nought, one, trillionth, infinity}
-use Rattle.order.specs.Pick.{magnitude, lesser, greater}
+use Rattle.float.specs.Number.{nought, one, trillionth, infinity}
+use Rattle.float.specs.Pick.{magnitude, lesser, greater}
 use Rattle.aabb.specs.declared.vector.Ray.{Ray}
 use Rattle.aabb.specs.declared.bounds.Aabb.{Aabb}
 use Rattle.aabb.specs.declared.slab.Span.{Span}

@@ -4,8 +4,8 @@ use mathlib.Core.Bool.{Bool, _&&_}
 use mathlib.Core.List.{List}
 use lib.ListN.{getD}
 use lib.Ieee.{Float, nan, binary64, add, sub, mul, div, neg, le, eq}
-use Rattle.order.specs.Number.{two, two-to-40}
-use Rattle.order.specs.Pick.{magnitude, lesser, greater}
+use Rattle.float.specs.Number.{two, two-to-40}
+use Rattle.float.specs.Pick.{magnitude, lesser, greater}
 use Rattle.aabb.specs.declared.vector.Vec3.{Vec3}
 use Rattle.aabb.specs.declared.vector.Ray.{Ray}
 

@@ -23,7 +23,7 @@ impl Aabb {
     pub fn empty() -> Self
         ensures { λ r. ⌜ r ≡ emptyBox ⌝ }
     {
-        let i = order::infinity();
+        let i = float::infinity();
         Self {
             min: Vec3 { x: i, y: i, z: i },
             max: Vec3 {
@@ -107,7 +107,7 @@ impl Aabb {
     pub fn is_empty(self) -> bool
         ensures { λ r. ⌜ r ≡ isEmpty self ⌝ }
     {
-        let i = order::infinity();
+        let i = float::infinity();
         if self.min.all_equal(i) {
             return self.max.all_equal(-i);
         }

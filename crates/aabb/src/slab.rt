@@ -16,7 +16,7 @@ impl Aabb {
         ensures { λ r. ⌜ r ≡ slab ray self ⌝ }
     {
         let mut enter = 0.0;
-        let mut exit = order::infinity();
+        let mut exit = float::infinity();
         let mut axis: usize = 0;
         loop {
             if axis == 3 {
@@ -54,7 +54,7 @@ fn on_axis(bounds: Aabb, ray: Ray, axis: usize, enter: f64, exit: f64) -> Span
 fn narrowed(origin: f64, dir: f64, min: f64, max: f64, enter: f64, exit: f64) -> Span
     ensures { λ r. ⌜ r ≡ narrowed origin dir min max enter exit ⌝ }
 {
-    if order::magnitude(dir) < 1e-12 {
+    if float::magnitude(dir) < 1e-12 {
         return parallel(origin, min, max, enter, exit);
     }
     let inv = 1.0 / dir;
@@ -81,9 +81,9 @@ fn clipped(t0: f64, t1: f64, enter: f64, exit: f64) -> Span
     ensures { λ r. ⌜ r ≡ clipped t0 t1 enter exit ⌝ }
 {
     if t0 > t1 {
-        return unless_later(order::greater(enter, t1), order::lesser(exit, t0));
+        return unless_later(float::greater(enter, t1), float::lesser(exit, t0));
     }
-    unless_later(order::greater(enter, t0), order::lesser(exit, t1))
+    unless_later(float::greater(enter, t0), float::lesser(exit, t1))
 }
 
 // Missed where enter > exit.

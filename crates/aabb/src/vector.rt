@@ -88,9 +88,9 @@ impl Vec3 {
     pub fn least(self, other: Vec3) -> Vec3
         ensures { λ r. ⌜ r ≡ least self other ⌝ }
     {
-        let x = order::lesser(self.x, other.x);
-        let y = order::lesser(self.y, other.y);
-        let z = order::lesser(self.z, other.z);
+        let x = float::lesser(self.x, other.x);
+        let y = float::lesser(self.y, other.y);
+        let z = float::lesser(self.z, other.z);
         Vec3 { x, y, z }
     }
 
@@ -98,9 +98,9 @@ impl Vec3 {
     pub fn greatest(self, other: Vec3) -> Vec3
         ensures { λ r. ⌜ r ≡ greatest self other ⌝ }
     {
-        let x = order::greater(self.x, other.x);
-        let y = order::greater(self.y, other.y);
-        let z = order::greater(self.z, other.z);
+        let x = float::greater(self.x, other.x);
+        let y = float::greater(self.y, other.y);
+        let z = float::greater(self.z, other.z);
         Vec3 { x, y, z }
     }
 

@@ -9,7 +9,7 @@ use lib.ListN.{length, getD, drop, replicate, length-drop}
 use lib.Seq.{drop-cons}
 use lib.Ieee.{Float, add, sub, mul, div, lt, le, ofInt, ofBits, binary64}
 use borrow.Author.Tests.{eq-eqb, ne-eqb, le-leb, lt-leb}
-use Rattle.order.specs.Number.{millionth, nought, one, one-and-half, sixteen, trillionth}
+use Rattle.float.specs.Number.{millionth, nought, one, one-and-half, sixteen, trillionth}
 use Rattle.aabb.specs.Bounds.{area, extent}
 use Rattle.aabb.specs.Vector.{along, minus}
 use Rattle.aabb.specs.declared.vector.Vec3.{Vec3}

@@ -3,9 +3,9 @@ use mathlib.Core.Path.{_≡_, _∙_, subst⁻¹}
 use mathlib.Core.Bool.{cond}
 use lib.Dec.{T}
 use lib.Ieee.{Float, lt, neg, ofBits}
-use Rattle.order.specs.Number.{real}
-use Rattle.order.specs.Pick.{lesser, greater}
-use Rattle.order.proofs.Pick.{lower-is, higher-is, lower-real, higher-real}
+use Rattle.float.specs.Number.{real}
+use Rattle.float.specs.Pick.{lesser, greater}
+use Rattle.float.proofs.Pick.{lower-is, higher-is, lower-real, higher-real}
 use Rattle.aabb.specs.declared.vector.Vec3.{Vec3}
 use Rattle.aabb.specs.declared.bounds.Aabb.{Aabb}
 use Rattle.aabb.specs.Vector.{vec, least, greatest}

@@ -7,7 +7,7 @@ use mathlib.Core.List.{List, [], _∷_}
 use lib.ListN.{length}
 use lib.Dec.{T}
 use lib.Ieee.{Float}
-use Rattle.order.proofs.Pick.{greater-least, lesser-most}
+use Rattle.float.proofs.Pick.{greater-least, lesser-most}
 use Rattle.aabb.proofs.Axis.{along-greatest, along-least, at-most-along, at-most-from}
 use Rattle.aabb.proofs.Holds.{at-most-refl, bounded-numbers, contains-trans, union-bounded, union-empty, union-left, union-right}
 use Rattle.aabb.specs.Bounds.{bounded, contains, union}

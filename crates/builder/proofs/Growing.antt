@@ -12,7 +12,7 @@ use lib.Dec.{eqb}
 use lib.Ieee.{Float}
 use borrow.Author.Tests.{eq-eqb, ne-eqb, eqb-false}
 use borrow.Rule.Slice.PartMut.{midOf, postOf, putMid}
-use Rattle.order.proofs.Cases.{neither}
+use Rattle.float.proofs.Cases.{neither}
 use Rattle.aabb.specs.declared.bounds.Aabb.{Aabb}
 use Rattle.triangle.specs.Mesh.{centroidAt}
 use Rattle.builder.specs.declared.division.Made.{Made}

@@ -13,8 +13,8 @@ use lib.Ieee.Back.{round-whole}
 use lib.Ieee.Fits.{down-pos}
 use lib.Ieee.Scale.{round-same}
 use lib.Ieee.Order.{round-mono}
-use Rattle.order.proofs.Cases.{low-or-high, true-is}
-use Rattle.order.proofs.Order.{clash, le-trans}
+use Rattle.float.proofs.Cases.{low-or-high, true-is}
+use Rattle.float.proofs.Order.{clash, le-trans}
 use Rattle.builder.specs.Bins.{binOf, whole}
 
 -- ---- whole numbers as floats

@@ -10,11 +10,11 @@ use lib.Dec.{T}
 use lib.ListN.{length, getD, set, replicate, length-set, length-replicate, getD-replicate}
 use lib.Seq.{getD-set-same, getD-set-other}
 use lib.Ieee.{Float, nan, lt, neg}
-use Rattle.order.specs.Number.{real, infinity}
-use Rattle.order.specs.Pick.{lesser, greater}
-use Rattle.order.proofs.Cases.{low-or-high, same?}
-use Rattle.order.proofs.Numbers.{infinity-is}
-use Rattle.order.proofs.Pick.{lower-is, higher-is, lower-real, higher-real}
+use Rattle.float.specs.Number.{real, infinity}
+use Rattle.float.specs.Pick.{lesser, greater}
+use Rattle.float.proofs.Cases.{low-or-high, same?}
+use Rattle.float.proofs.Numbers.{infinity-is}
+use Rattle.float.proofs.Pick.{lower-is, higher-is, lower-real, higher-real}
 use Rattle.aabb.specs.Vector.{vectorAt, least, greatest}
 use Rattle.aabb.specs.Bounds.{boxAt, emptyBox, union}
 use Rattle.aabb.specs.declared.bounds.Aabb.{Aabb}

@@ -6,9 +6,9 @@ use mathlib.Core.Bool.{Bool, true, false}
 use lib.Dec.{ltb}
 use lib.Ieee.{Float, lt, ne}
 use borrow.Author.Tests.{ltb-true, ltb-false, le-ltb}
-use Rattle.order.specs.Number.{nought, real}
-use Rattle.order.specs.Total.{totalLess}
-use Rattle.order.proofs.Total.{Weak, weak-lex, weak-total, lex-false, total-gt, total-level, total-lt}
+use Rattle.float.specs.Number.{nought, real}
+use Rattle.float.specs.Total.{totalLess}
+use Rattle.float.proofs.Total.{Weak, weak-lex, weak-total, lex-false, total-gt, total-level, total-lt}
 use Rattle.builder.specs.Fallback.{underAt, ahead}
 
 weak-at : (at : ℕ → Float) → Weak (underAt at)

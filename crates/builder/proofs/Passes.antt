@@ -10,7 +10,7 @@ use lib.Seq.{drop-cons}
 use lib.Ieee.{Float, add, div, binary64}
 use Rattle.aabb.specs.declared.vector.Vec3.{Vec3}
 use Rattle.aabb.specs.declared.bounds.Aabb.{Aabb}
-use Rattle.order.specs.Number.{three}
+use Rattle.float.specs.Number.{three}
 use Rattle.aabb.specs.Vector.{along, divided, numberAt, plus, vectorAt}
 use Rattle.aabb.specs.Bounds.{emptyBox, grown, ofThree, union}
 use Rattle.triangle.specs.declared.Triangle.{Triangle}

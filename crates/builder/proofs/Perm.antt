@@ -9,7 +9,7 @@ use lib.ListN.{length, getD, set, length-set}
 use lib.Seq.{getD-set-same, getD-set-other}
 use lib.Dec.{eqb}
 use borrow.Author.Tests.{eq-eqb, eqb-true}
-use Rattle.order.proofs.Cases.{same?}
+use Rattle.float.proofs.Cases.{same?}
 use Rattle.builder.specs.Build.{upTo}
 use Rattle.builder.specs.Fallback.{insert, sorted}
 use Rattle.builder.specs.Heap.{Perm, hit, occ}

@@ -7,7 +7,7 @@ use mathlib.Core.List.{List}
 use lib.ListN.{length, getD, set, length-set}
 use lib.Seq.{getD-set-same, getD-set-other}
 use lib.Ieee.{Float, nan}
-use Rattle.order.proofs.Cases.{low-or-high}
+use Rattle.float.proofs.Cases.{low-or-high}
 use Rattle.aabb.specs.Bounds.{boxAt}
 use Rattle.aabb.specs.Vector.{vectorAt}
 use Rattle.aabb.specs.declared.bounds.Aabb.{Aabb}

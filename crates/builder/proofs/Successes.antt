@@ -12,7 +12,7 @@ use lib.Seq.{getD-take, length-take-le, take-at, drop-at}
 use lib.Dec.{T, ltb, eqb}
 use lib.Ieee.{Float, nan, neg, le, eq, ofBits}
 use borrow.Author.Tests.{eqb-true, ltb-false, not-false}
-use Rattle.order.proofs.Cases.{neither, same?}
+use Rattle.float.proofs.Cases.{neither, same?}
 use Rattle.aabb.specs.Bounds.{bounded, emptyBox, isEmpty, usable}
 use Rattle.aabb.specs.Vector.{allAtMost, allEqual, allWithin, within}
 use Rattle.aabb.specs.declared.bounds.Aabb.{Aabb}

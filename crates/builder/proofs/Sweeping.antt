@@ -12,7 +12,7 @@ use Rattle.builder.specs.declared.bins.Bin.{Bin}
 use Rattle.builder.specs.Bins.{blank, joinBins, noBin, suffixOf}
 use Rattle.builder.specs.Choice.{weight}
 use Rattle.builder.specs.Lanes.{binAt, lane}
-use Rattle.order.proofs.Cases.{same?}
+use Rattle.float.proofs.Cases.{same?}
 use Rattle.builder.proofs.Lanes.{lane-get}
 
 -- ---- a lane

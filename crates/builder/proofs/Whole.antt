@@ -10,7 +10,7 @@ use lib.Seq.{length-take-le, take-at, drop-at}
 use lib.Ieee.{Float}
 use borrow.Author.Tests.{eq-eqb, ne-eqb, le-ltb, lt-ltb}
 use borrow.Rule.Slice.PartMut.{postOf}
-use Rattle.order.specs.Number.{nought}
+use Rattle.float.specs.Number.{nought}
 use Rattle.builder.specs.declared.Built.{Built}
 use Rattle.builder.specs.declared.Built.the-variants.{Refused, Tree as Grew}
 use Rattle.builder.specs.declared.division.Made.{Made}

@@ -6,7 +6,7 @@ use mathlib.Core.List.{List, [], _∷_, _++_}
 use lib.ListN.{length, drop, replicate}
 use lib.Dec.{ltb, eqb}
 use lib.Ieee.{Float}
-use Rattle.order.specs.Number.{nought}
+use Rattle.float.specs.Number.{nought}
 use Rattle.triangle.specs.Mesh.{triangleAt, admittedTriangle}
 use Rattle.builder.specs.declared.start.Found.{Found}
 use Rattle.builder.specs.declared.start.Found.the-variants.{At, Nothing}

@@ -5,7 +5,7 @@ use mathlib.Core.List.{List, [], _∷_}
 use lib.ListN.{length, replicate}
 use lib.Dec.{leb, eqb}
 use lib.Ieee.{Float, add, sub, mul, div, lt, le, binary64}
-use Rattle.order.specs.Number.{nought, one, one-and-half, sixteen, millionth, trillionth}
+use Rattle.float.specs.Number.{nought, one, one-and-half, sixteen, millionth, trillionth}
 use Rattle.aabb.specs.declared.bounds.Aabb.{Aabb}
 use Rattle.aabb.specs.Vector.{along}
 use Rattle.aabb.specs.Bounds.{area}

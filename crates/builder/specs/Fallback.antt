@@ -5,7 +5,7 @@ use mathlib.Core.List.{List, [], _∷_}
 use lib.ListN.{length}
 use lib.Dec.{ltb, eqb}
 use lib.Ieee.{Float}
-use Rattle.order.specs.Total.{lex, totalLess}
+use Rattle.float.specs.Total.{lex, totalLess}
 use Rattle.triangle.specs.Mesh.{centroidAt}
 use Rattle.builder.specs.Partition.{Parted, parts, parted}
 

@@ -6,7 +6,7 @@ use aabb::Vec3;
 ghost use mathlib.Core.Path.{_≡_};
 ghost use Prim.Native.Nat.{ℕ, _+_, _*_, _/_, _≤_, _<_};
 ghost use lib.ListN.{length, getD, set, replicate};
-ghost use Rattle.order.specs.Number.{infinity};
+ghost use Rattle.float.specs.Number.{infinity};
 ghost use Rattle.aabb.specs.Vector.{along};
 ghost use Rattle.aabb.specs.Bounds.{union, boxAt};
 ghost use Rattle.builder.specs.Tree.{most-triangles};
@@ -106,7 +106,7 @@ pub fn vacate(boxes: &mut [f64])
     requires { ⌜ now boxes ≡ replicate 288 infinity ⌝ }
     ensures { λ _. ⌜ Vacant (now (boxes .exit)) (replicate 48 0) ⌝ }
 {
-    let far = -order::infinity();
+    let far = -float::infinity();
     let mut k: usize = 0;
     while k < 48 {
         boxes[k * 6 + 3] = far;
@@ -124,12 +124,12 @@ pub fn put(boxes: &mut [f64], counts: &mut [u32], k: usize, b: Aabb)
     ensures { λ _. ⌜ AllClear (now (boxes .exit)) ⌝ }
 {
     let at = k * 6;
-    boxes[at] = order::lower(boxes[at], b.min.x);
-    boxes[at + 1] = order::lower(boxes[at + 1], b.min.y);
-    boxes[at + 2] = order::lower(boxes[at + 2], b.min.z);
-    boxes[at + 3] = order::higher(boxes[at + 3], b.max.x);
-    boxes[at + 4] = order::higher(boxes[at + 4], b.max.y);
-    boxes[at + 5] = order::higher(boxes[at + 5], b.max.z);
+    boxes[at] = float::lower(boxes[at], b.min.x);
+    boxes[at + 1] = float::lower(boxes[at + 1], b.min.y);
+    boxes[at + 2] = float::lower(boxes[at + 2], b.min.z);
+    boxes[at + 3] = float::higher(boxes[at + 3], b.max.x);
+    boxes[at + 4] = float::higher(boxes[at + 4], b.max.y);
+    boxes[at + 5] = float::higher(boxes[at + 5], b.max.z);
     counts[k] += 1;
 }
 

@@ -50,10 +50,10 @@ pub fn is_ahead(a: Ranked, b: Ranked) -> bool
     if y < x {
         return false;
     }
-    if order::total_less(x, y) {
+    if float::total_less(x, y) {
         return true;
     }
-    if order::total_less(y, x) {
+    if float::total_less(y, x) {
         return false;
     }
     a.number < b.number

@@ -11,9 +11,9 @@ fn lowest(run: Vec3, v: Vec3) -> Vec3
     ensures { λ r. ⌜ (r ≡ least run v) × ClearVector r ⌝ }
 {
     Vec3 {
-        x: order::lower(run.x, v.x),
-        y: order::lower(run.y, v.y),
-        z: order::lower(run.z, v.z),
+        x: float::lower(run.x, v.x),
+        y: float::lower(run.y, v.y),
+        z: float::lower(run.z, v.z),
     }
 }
 
@@ -22,9 +22,9 @@ fn highest(run: Vec3, v: Vec3) -> Vec3
     ensures { λ r. ⌜ (r ≡ greatest run v) × ClearVector r ⌝ }
 {
     Vec3 {
-        x: order::higher(run.x, v.x),
-        y: order::higher(run.y, v.y),
-        z: order::higher(run.z, v.z),
+        x: float::higher(run.x, v.x),
+        y: float::higher(run.y, v.y),
+        z: float::higher(run.z, v.z),
     }
 }
 

@@ -9,7 +9,7 @@ ghost use mathlib.Core.List.{List};
 ghost use Prim.Native.Nat.{ℕ, _*_, _/_, _≤_, _<_};
 ghost use lib.ListN.{length, replicate};
 ghost use lib.Ieee.{Float, div, sub, binary64};
-ghost use Rattle.order.specs.Number.{sixteen};
+ghost use Rattle.float.specs.Number.{sixteen};
 ghost use Rattle.aabb.specs.Vector.{along};
 ghost use Rattle.builder.specs.Tree.{most-triangles};
 ghost use Rattle.builder.specs.Bins.{noBin, filled};
@@ -170,7 +170,7 @@ pub fn find_best_split(triangles: &[f64], index: &[u32], hull: Hull) -> SplitDec
         y: scale(span.y),
         z: scale(span.z),
     };
-    let far = order::infinity();
+    let far = float::infinity();
     let mut boxes = [far; 288];
     let mut counts = [0u32; 48];
     bins::vacate(&mut boxes);

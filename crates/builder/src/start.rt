@@ -2,7 +2,7 @@
 ghost use mathlib.Core.Path.{_≡_};
 ghost use Prim.Native.Nat.{_≤_};
 ghost use lib.ListN.{length, replicate};
-ghost use Rattle.order.specs.Number.{nought};
+ghost use Rattle.float.specs.Number.{nought};
 ghost use Rattle.builder.specs.Tree.{most-triangles};
 ghost use Rattle.builder.specs.Build.{upTo, room, firstRefused};
 

@@ -146,7 +146,7 @@ fn bits(pattern: u64) {
 
 fn side(boxes: &[f64], at: usize) {
     if at < boxes.len() {
-        bits(order::bits(boxes[at]));
+        bits(float::bits(boxes[at]));
     }
 }
 

@@ -38,7 +38,7 @@ fn bounds(min: Vec3, max: Vec3) -> Aabb {
 // ---- printing
 fn number(x: f64) {
     io::write_all(1, b" ");
-    io::print_hex(1, order::bits(x), 16);
+    io::print_hex(1, float::bits(x), 16);
 }
 
 fn flag(yes: bool) {
@@ -62,28 +62,28 @@ fn end() {
 // ---- order
 // Lesser, greater and total order of x with eight numbers, and its magnitude.
 fn orders(pattern: u64) {
-    let x = order::from_bits(pattern);
+    let x = float::from_bits(pattern);
     io::write_all(1, b"magnitude");
     number(x);
-    number(order::magnitude(x));
+    number(float::magnitude(x));
     end();
     pair(x, 0.0);
     pair(x, -0.0);
     pair(x, 5e-324);
     pair(x, -1.0);
     pair(x, 1.7976931348623157e308);
-    pair(x, order::infinity());
-    pair(x, -order::infinity());
-    pair(x, order::from_bits(0x7ff8_0000_0000_0000));
+    pair(x, float::infinity());
+    pair(x, -float::infinity());
+    pair(x, float::from_bits(0x7ff8_0000_0000_0000));
 }
 
 fn pair(x: f64, y: f64) {
     io::write_all(1, b"lesser, greater, before");
     number(x);
     number(y);
-    number(order::lesser(x, y));
-    number(order::greater(x, y));
-    flag(order::total_less(x, y));
+    number(float::lesser(x, y));
+    number(float::greater(x, y));
+    flag(float::total_less(x, y));
     end();
 }
 
@@ -106,7 +106,7 @@ fn show_box(b: Aabb) {
 }
 
 fn boxes() {
-    let nan = order::from_bits(0x7ff8_0000_0000_0000);
+    let nan = float::from_bits(0x7ff8_0000_0000_0000);
     let zero = point(0.0, -0.0, 0.0);
     let turned = point(-0.0, 0.0, nan);
     let high = point(1.0, 2.0, 1099511627776.0);
@@ -141,8 +141,8 @@ fn slab(b: Aabb, ray: Ray) {
 }
 
 fn slabs() {
-    let nan = order::from_bits(0x7ff8_0000_0000_0000);
-    let inf = order::infinity();
+    let nan = float::from_bits(0x7ff8_0000_0000_0000);
+    let inf = float::infinity();
     let low = point(0.0, 0.0, 0.0);
     let high = point(1.0, 1.0, 1.0);
     let unit = bounds(low, high);
@@ -189,7 +189,7 @@ fn meet(a: Triangle, ray: Ray, k: u32) {
 }
 
 fn triangles() {
-    let nan = order::from_bits(0x7ff8_0000_0000_0000);
+    let nan = float::from_bits(0x7ff8_0000_0000_0000);
     let v0 = point(0.0, 0.0, 0.0);
     let v1 = point(1.0, 0.0, 0.0);
     let v2 = point(0.0, 1.0, 0.0);

@@ -30,7 +30,7 @@ fn slab(fd: i32) -> Check {
         return Check::Cut;
     }
     let mut times = [-7.5; 2];
-    let answer = export::pigeonmast_slab(&bounds, &ray, &mut times);
+    let answer = pigeonmast::pigeonmast_slab(&bounds, &ray, &mut times);
     compare::same_word(fd, answer).and(compare::same_times(fd, &times))
 }
 
@@ -44,7 +44,7 @@ fn triangle(fd: i32) -> Check {
         return Check::Cut;
     }
     let mut numbers = [-7.5; 7];
-    let answer = export::pigeonmast_triangle(&triangle, &ray, &mut numbers);
+    let answer = pigeonmast::pigeonmast_triangle(&triangle, &ray, &mut numbers);
     compare::same_word(fd, answer).and(compare::same_hit(fd, &numbers))
 }
 
@@ -135,7 +135,7 @@ fn build(
     links: &mut [u32],
 ) -> Check {
     let mut told = [0; 2];
-    let answer = export::pigeonmast_build(triangles, index, boxes, links, &mut told);
+    let answer = pigeonmast::pigeonmast_build(triangles, index, boxes, links, &mut told);
     compare::same_word(fd, answer)
         .and(compare::same_build(fd, &told))
         .and(compare::same_words(fd, index))
@@ -189,7 +189,7 @@ fn walk_ray(fd: i32, triangles: &[f64], index: &[u32], boxes: &[f64], links: &[u
     }
     let mut numbers = [-7.5; 7];
     let mut told = [0; 4];
-    let answer = export::pigeonmast_walk(
+    let answer = pigeonmast::pigeonmast_walk(
         triangles,
         index,
         boxes,

@@ -51,8 +51,8 @@ fn same_number(fd: i32, got: f64, exact: bool) -> Check {
     let Long::Read(x) = input::read_long(fd) else {
         return Check::Cut;
     };
-    let stored = order::from_bits(x);
-    if order::bits(got) == order::bits(stored) {
+    let stored = float::from_bits(x);
+    if float::bits(got) == float::bits(stored) {
         return Check::Same;
     }
     if exact {

@@ -70,7 +70,7 @@ pub fn fill_numbers(fd: i32, list: &mut [f64]) -> bool {
         let Long::Read(x) = read_long(fd) else {
             return false;
         };
-        list[i] = order::from_bits(x);
+        list[i] = float::from_bits(x);
         i += 1;
     }
     true

@@ -6,11 +6,11 @@ use native.Mathlib.Numerals.{add-one}
 use lib.Ieee.{binary64, toBits}
 use Rattle.aabb.specs.declared.vector.Ray.{Ray}
 use Rattle.triangle.specs.declared.Hit.{Hit}
-use Rattle.scene.specs.declared.Answer.{Answer}
-use Rattle.scene.specs.declared.Answer.the-variants.{Struck, Missed, Refused}
-use Rattle.scene.specs.Answer.{Told, told}
-use Rattle.scene.specs.Lent.{Lent}
-use Rattle.scene.specs.Walk.{walk}
+use Rattle.walk.specs.declared.Answer.{Answer}
+use Rattle.walk.specs.declared.Answer.the-variants.{Struck, Missed, Refused}
+use Rattle.walk.specs.Answer.{Told, told}
+use Rattle.walk.specs.Lent.{Lent}
+use Rattle.walk.specs.Walk.{walk}
 use Rattle.report.specs.Little.{rayOf}
 use Rattle.report.specs.Lines.{hitLine, missLine, refusedLine, walkedLine, answerLine, rayLine}
 use Rattle.report.specs.Text.{Wrote}

@@ -3,12 +3,12 @@ use Prim.Native.Nat.{ℕ, zero, suc, _+_, _*_}
 use mathlib.Core.List.{List, [], _++_}
 use lib.ListN.{take, replicate}
 use lib.Ieee.{Float}
-use Rattle.order.specs.Number.{nought}
+use Rattle.float.specs.Number.{nought}
 use Rattle.builder.specs.declared.Built.{Built}
 use Rattle.builder.specs.declared.Built.the-variants.{Tree, Refused}
 use Rattle.builder.specs.Build.{Outcome, built}
-use Rattle.scene.specs.Lent.{Lent, lent}
-use Rattle.scene.specs.Walk.{walk}
+use Rattle.walk.specs.Lent.{Lent, lent}
+use Rattle.walk.specs.Walk.{walk}
 use Rattle.report.specs.declared.input.Input.{Input}
 use Rattle.report.specs.declared.input.Input.the-variants.{Good, Bad}
 use Rattle.report.specs.Little.{numbers, rayOf}

@@ -12,7 +12,7 @@ ghost use mathlib.Core.Path.{_≡_};
 ghost use Prim.Native.Nat.{_+_, _*_, _≤_, min};
 ghost use lib.ListN.{length};
 ghost use Rattle.io.specs.Counts.{Counts};
-ghost use Rattle.scene.specs.Lent.{lent};
+ghost use Rattle.walk.specs.Lent.{lent};
 ghost use Rattle.report.specs.Input.{most};
 ghost use Rattle.report.specs.Text.{Wrote};
 ghost use Rattle.report.specs.Survey.{rayLines, reported, surveyed};
@@ -93,7 +93,7 @@ fn put_rays(
     let mut next = at;
     while k < rays {
         let ray = number::ray(input, from + 48 * k);
-        let answer = scene::walk(triangles, index, boxes, links, ray);
+        let answer = walk::walk(triangles, index, boxes, links, ray);
         next = line::put_ray(out, next, k as u64, answer);
         k += 1;
     }

@@ -1,9 +1,9 @@
 // The report's lines. A line takes at most 128 bytes.
 use crate::text;
-use scene::Answer;
+use walk::Answer;
 ghost use Prim.Native.Nat.{_+_, _≤_};
 ghost use lib.ListN.{length};
-ghost use Rattle.scene.specs.Answer.{told};
+ghost use Rattle.walk.specs.Answer.{told};
 ghost use Rattle.report.specs.Text.{Wrote};
 ghost use Rattle.report.specs.Lines.{builtLine, buildRefusedLine, hitLine, missLine, refusedLine, rayLine};
 
@@ -71,7 +71,7 @@ pub fn put_ray(out: &mut [u8], at: usize, k: u64, answer: Answer) -> usize
             at,
             k,
             hit.triangle as u64,
-            order::bits(hit.t),
+            float::bits(hit.t),
             boxes,
             triangles,
         ),

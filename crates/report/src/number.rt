@@ -14,7 +14,7 @@ pub fn number(s: &[u8], at: usize) -> f64
 {
     let low = input::word(s, at);
     let high = input::word(s, at + 4);
-    order::from_bits(low + 4294967296 * high)
+    float::from_bits(low + 4294967296 * high)
 }
 
 // As many numbers as `out` holds, from a place on.

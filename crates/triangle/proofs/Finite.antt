@@ -7,11 +7,11 @@ use lib.Dec.{T}
 use lib.Ieee.{Float, binary64, round, ofBits, add, mul, lt, le}
 use lib.Ieee.Fits.{and-l, and-r}
 use lib.Ieee.Scale.{finite}
-use Rattle.order.specs.Number.{nought, one, two, two-to-40, millionth, ten-billionth, trillionth}
-use Rattle.order.specs.Pick.{magnitude}
-use Rattle.order.proofs.Numbers.{two-is, two-to-40-is}
-use Rattle.order.proofs.Order.{le-trans, not-lt→le, le→real-l, le→real-r}
-use Rattle.order.proofs.Bounds.{power, AtMost, power-finite, power-wider, add-most, sub-most, mul-most, inverse-most}
+use Rattle.float.specs.Number.{nought, one, two, two-to-40, millionth, ten-billionth, trillionth}
+use Rattle.float.specs.Pick.{magnitude}
+use Rattle.float.proofs.Numbers.{two-is, two-to-40-is}
+use Rattle.float.proofs.Order.{le-trans, not-lt→le, le→real-l, le→real-r}
+use Rattle.float.proofs.Bounds.{power, AtMost, power-finite, power-wider, add-most, sub-most, mul-most, inverse-most}
 use Rattle.aabb.specs.declared.vector.Vec3.{Vec3}
 use Rattle.aabb.specs.declared.vector.Ray.{Ray}
 use Rattle.aabb.specs.Vector.{along, minus, dot, minor, cross, allWithin, admittedRay}

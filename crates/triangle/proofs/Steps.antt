@@ -8,11 +8,11 @@ use mathlib.Core.List.{List}
 use lib.ListN.{length, List·getD-eq-default}
 use lib.Dec.{T}
 use lib.Ieee.{Float, nan, inf, fin, binary64, ofBits, add, sub, neg, lt, le}
-use Rattle.order.specs.Number.{real, nought, one, two, three, two-to-40, millionth, ten-billionth}
-use Rattle.order.specs.Pick.{magnitude}
-use Rattle.order.proofs.Cases.{false-is}
-use Rattle.order.proofs.Order.{lt→le, le→real-l, not-lt→le}
-use Rattle.order.proofs.Monotone.{sub-turns}
+use Rattle.float.specs.Number.{real, nought, one, two, three, two-to-40, millionth, ten-billionth}
+use Rattle.float.specs.Pick.{magnitude}
+use Rattle.float.proofs.Cases.{false-is}
+use Rattle.float.proofs.Order.{lt→le, le→real-l, not-lt→le}
+use Rattle.float.proofs.Monotone.{sub-turns}
 use Rattle.aabb.specs.declared.vector.Vec3.{Vec3}
 use Rattle.aabb.specs.declared.vector.Ray.{Ray}
 use Rattle.aabb.specs.Vector.{plus, divided, negated, dot, within, allWithin, pointAt, numberAt, vectorAt}

@@ -2,8 +2,8 @@
 use Prim.Native.Nat.{ℕ}
 use mathlib.Core.Bool.{Bool, true, false, not, _&&_, _||_, cond}
 use lib.Ieee.{Float, binary64, add, mul, div, lt, le}
-use Rattle.order.specs.Number.{nought, one, millionth, ten-billionth}
-use Rattle.order.specs.Pick.{magnitude}
+use Rattle.float.specs.Number.{nought, one, millionth, ten-billionth}
+use Rattle.float.specs.Pick.{magnitude}
 use Rattle.aabb.specs.declared.vector.Vec3.{Vec3}
 use Rattle.aabb.specs.declared.vector.Ray.{Ray}
 use Rattle.aabb.specs.Vector.{minus, negated, dot, cross, pointAt}

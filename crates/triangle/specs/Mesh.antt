@@ -3,7 +3,7 @@ use Prim.Native.Nat.{ℕ, _+_, _*_}
 use mathlib.Core.Bool.{Bool, _&&_}
 use mathlib.Core.List.{List}
 use lib.Ieee.{Float}
-use Rattle.order.specs.Number.{two, three, two-to-40}
+use Rattle.float.specs.Number.{two, three, two-to-40}
 use Rattle.aabb.specs.declared.vector.Vec3.{Vec3}
 use Rattle.aabb.specs.declared.bounds.Aabb.{Aabb}
 use Rattle.aabb.specs.Vector.{plus, divided, along, allWithin, vectorAt}

@@ -7,7 +7,7 @@ use aabb::Vec3;
 ghost use mathlib.Core.Path.{_≡_};
 ghost use Prim.Native.Nat.{_+_, _≤_};
 ghost use lib.ListN.{length};
-ghost use Rattle.order.specs.Number.{three};
+ghost use Rattle.float.specs.Number.{three};
 ghost use Rattle.aabb.specs.Vector.{vectorAt, plus, divided};
 ghost use Rattle.triangle.specs.Mesh.{triangleAt, boundsOf, centroidOf, admittedTriangle};
 ghost use Rattle.triangle.specs.Meeting.{det, uOf, vOf, tOf, judged, distance, hitAt, strike};
@@ -213,11 +213,11 @@ impl Crossing {
         ensures { λ r. ⌜ r ≡ judged (self .det) (self .u) (self .v) (self .t) ⌝ }
     {
         let both = self.u + self.v;
-        let least = order::lower(order::lower(self.u, self.v), 1.0 - both);
+        let least = float::lower(float::lower(self.u, self.v), 1.0 - both);
         if !(0.0 <= least) {
             return Distance::None;
         }
-        if order::magnitude(self.det) < 1e-10 {
+        if float::magnitude(self.det) < 1e-10 {
             return Distance::None;
         }
         if !(0.0 <= self.u) {

@@ -6,7 +6,7 @@ use mathlib.Core.List.{List, _++_}
 use lib.ListN.{length, drop, replicate}
 use lib.Ieee.{Float, le}
 use borrow.Rule.Slice.PartMut.{postOf}
-use Rattle.order.specs.Number.{nought}
+use Rattle.float.specs.Number.{nought}
 use Rattle.builder.specs.Build.{upTo}
 use Rattle.builder.specs.Heap.{occ}
 use Rattle.builder.specs.Layout.{Divided}

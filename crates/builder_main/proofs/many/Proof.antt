@@ -1,7 +1,7 @@
 -- The array is as long as it says. Assumes nothing.
 use mathlib.Core.Path.{sym}
 use lib.ListN.{length-replicate}
-use Rattle.order.specs.Number.{nought}
+use Rattle.float.specs.Number.{nought}
 use borrow.Author.Needs.{needs}
 use Rattle.builder_main.proofs.many.Statement.{statement}
 use Rattle.builder_main.proofs.many.Tie as tie

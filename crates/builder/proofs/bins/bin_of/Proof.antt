@@ -6,7 +6,7 @@ use mathlib.Core.Bool.{true, false}
 use lib.Dec.{T, le→leb}
 use lib.Ieee.{Float, add, le, binary64, inFloat, inUnsigned, toUnsigned, ofBits, ofInt}
 use lib.Ieee.Back.{unsigned-back}
-use Rattle.order.specs.Number.{one}
+use Rattle.float.specs.Number.{one}
 use Rattle.builder.specs.Bins.{binOf, whole}
 use Rattle.builder.proofs.Halves.{bin-from, bin-most, bin-under, boundary}
 use Rattle.builder.proofs.bins.bin_of.Statement.{statement}

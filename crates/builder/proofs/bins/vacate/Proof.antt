@@ -4,7 +4,7 @@ use Prim.Native.Nat.{ℕ, _-_, _≤_}
 use native.Mathlib.Omega.{arith}
 use lib.ListN.{length, length-set}
 use lib.Ieee.{neg}
-use Rattle.order.specs.Number.{infinity}
+use Rattle.float.specs.Number.{infinity}
 use Rattle.builder.proofs.Lanes.{Emptied, emptied-start, emptied-next, emptied-end}
 use borrow.Author.Needs.{needs}
 use Rattle.builder.proofs.bins.vacate.Statement.{statement}

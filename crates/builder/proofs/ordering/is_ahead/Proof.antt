@@ -1,7 +1,7 @@
 -- The tests are those of the order by centroid and then by number. Assumes nothing.
 use mathlib.Core.Path.{refl, sym, _∙_}
 use lib.Dec.{ltb}
-use Rattle.order.proofs.Total.{level-lt, level-nonzero, level-real, lex-next, lex-no, lex-yes}
+use Rattle.float.proofs.Total.{level-lt, level-nonzero, level-real, lex-next, lex-no, lex-yes}
 use Rattle.builder.specs.Fallback.{ahead, underAt}
 use Rattle.builder.proofs.Linear.{under-at, under-gt, under-level, under-lt}
 use borrow.Author.Needs.{needs}

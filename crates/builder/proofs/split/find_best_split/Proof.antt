@@ -3,7 +3,7 @@ use mathlib.Core.Path.{_≡_, refl, sym, _∙_, ap}
 use native.Mathlib.Omega.{arith}
 use lib.ListN.{length, replicate}
 use lib.Ieee.{Float, mul, binary64}
-use Rattle.order.specs.Number.{one-and-half}
+use Rattle.float.specs.Number.{one-and-half}
 use Rattle.aabb.specs.Vector.{vec}
 use Rattle.builder.specs.Bins.{whole}
 use Rattle.builder.specs.Choice.{bestSplit, chosen}

@@ -5,7 +5,7 @@ use Prim.Native.Nat.{ℕ, _+_, _*_, _-_, _≤_, _<_}
 use native.Mathlib.Omega.{arith}
 use lib.ListN.{length, drop, length-replicate, length-set}
 use lib.Ieee.{Float}
-use Rattle.order.specs.Number.{nought}
+use Rattle.float.specs.Number.{nought}
 use Rattle.builder.specs.declared.bins.Bin.{Bin}
 use Rattle.builder.specs.Bins.{noBin, suffixOf}
 use Rattle.builder.specs.Choice.{sweepFrom}

@@ -1,7 +1,7 @@
 -- The operations are the definition's, in its order. Assumes nothing.
 use mathlib.Core.Path.{ap}
 use lib.Ieee.{Float, mul, binary64}
-use Rattle.order.specs.Number.{one-and-half}
+use Rattle.float.specs.Number.{one-and-half}
 use Rattle.builder.specs.Bins.{whole}
 use Rattle.builder.specs.Choice.{weight}
 use borrow.Author.Needs.{needs}

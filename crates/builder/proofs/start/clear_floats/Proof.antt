@@ -3,7 +3,7 @@ use mathlib.Core.Path.{_≡_, refl}
 use Prim.Native.Nat.{ℕ, _-_, _≤_}
 use lib.ListN.{length, take, replicate, length-set}
 use lib.Ieee.{Float}
-use Rattle.order.specs.Number.{nought}
+use Rattle.float.specs.Number.{nought}
 use Rattle.builder.proofs.Fills.{all-written, rep-more}
 use borrow.Author.Needs.{needs}
 use Rattle.builder.proofs.start.clear_floats.Statement.{statement}

@@ -4,7 +4,7 @@ use Prim.Native.Nat.{_≤_, _<_, _-_}
 use native.Mathlib.Omega.{arith}
 use borrow.Author.Needs.{needs}
 use lib.Ieee.{Float}
-use Rattle.order.specs.Number.{nought}
+use Rattle.float.specs.Number.{nought}
 use Rattle.aabb.specs.Slab.{slabFrom, slab}
 use Rattle.aabb.proofs.Tests.{slab-end, slab-stop, slab-next}
 use Rattle.aabb.proofs.bounds.Aabb.intersect_ray.Statement.{statement}

@@ -1,0 +1,55 @@
+-- P1 to P12 hold of the rules: one test, computed over the whole table, and one law that turns it into the claim of every row. Assumes nothing.
+use mathlib.Core.Bool.{Bool, true, _&&_}
+use mathlib.Core.List.{List, [], _∷_}
+use lib.Dec.{T}
+use lib.Ieee.{isNan, lt, le, eq, add, sub, mul, div, neg, ofBits, ofInt, sum, round, units, odd, size, span, climb}
+use lib.Ieee.Fits.{and-l, and-r}
+use lib.Count.{trailingZeros}
+use Rattle.float.specs.Pick.{lesser, greater}
+use Rattle.aabb.specs.Vector.{plus, minus as aabb-minus, negated, scaled, divided, least, greatest, dot, minor, cross, along, within, allWithin, allAtMost, allEqual, vectorAt, pointAt, admittedRay}
+use Rattle.aabb.specs.Bounds.{emptyBox, grown, union, ofThree, extent, areaOf, area, bounded, isEmpty, usable, boxAt}
+use Rattle.aabb.specs.Slab.{reach, first, second, parallel, unlessLater, clipped, narrowed, andThen, ahead, onAxis, slabFrom, slab}
+use Rattle.triangle.specs.Mesh.{triangleAt, boundsOf, centroidOf, admittedTriangle, boundsAt, centroidAt}
+use Rattle.triangle.specs.Meeting.{edge1, edge2, pvec, det, invDet, tvec, qvec, uOf, vOf, tOf, judged, distance, faces, hitAt}
+use Rattle.builder.specs.Range.{boxFrom, nodeBox, centroidsFrom, centroidBox}
+use Rattle.builder.specs.Bins.{noBin, withBox, joinBins, binOf, place, filled, suffixOf}
+use Rattle.builder.specs.Choice.{weight, costOf, betterOf, sweepFrom, tryAxis, leafCost, chosen, bestSplit}
+use Rattle.builder.specs.Partition.{moves, lower, parted}
+use Rattle.builder.specs.Fallback.{underAt, ahead as builder-ahead, insert, sorted, ordered, settled, separated}
+use Rattle.builder.specs.Tree.{joined, decision, leafOf, grow}
+use Rattle.builder.specs.Layout.{boxPut, linkPut, boxesOf, linksOf}
+use Rattle.builder.specs.Build.{upTo, room, firstRefused, finished, checked, cramped, built}
+use Rattle.walk.specs.Lent.{triangleCount, nodeAt, sound, leftOf, rightOf}
+use Rattle.walk.specs.Walk.{boxed, replaces, nearer, after, tested, scan, openLeaf, openInternal, opened, judged as scene-judged, visit, hitOf, over, run, misfit, walk}
+use Rattle.demands.specs.Handed.{handedAs, handed}
+use Rattle.demands.specs.Probes.{Probe, slabbed, split, grown as built-row, walked, Claim, All, builtWhole, probes}
+use Rattle.demands.proofs.Same.{sameSpan, span-is, sameSplit, split-is, sameOutcome, outcome-is, sameTold, told-is}
+
+abbrev holds : Probe → Bool
+holds (slabbed r b s) = sameSpan (slab r b) s
+holds (split mesh d) = sameSplit (decision mesh (upTo (triangleCount mesh))) d
+holds (built-row mesh o) = sameOutcome (builtWhole mesh) o
+holds (walked mesh r t) = sameTold (walk (handed mesh (builtWhole mesh)) r) t
+
+abbrev allHold : List Probe → Bool
+allHold [] = true
+allHold (p ∷ ps) = holds p && allHold ps
+
+claim : (p : Probe) → T (holds p) → Claim p
+claim (slabbed r b s) h = span-is (slab r b) s h
+claim (split mesh d) h = split-is (decision mesh (upTo (triangleCount mesh))) d h
+claim (built-row mesh o) h = outcome-is (builtWhole mesh) o h
+claim (walked mesh r t) h = told-is (walk (handed mesh (builtWhole mesh)) r) t h
+
+claims : (ps : List Probe) → T (allHold ps) → All ps
+claims [] h = tt
+claims (p ∷ ps) h = (claim p (and-l (holds p) (allHold ps) h), claims ps (and-r (holds p) (allHold ps) h))
+
+-- the test, computed over the whole table
+table : T (allHold probes)
+unfolding probes handedAs handed builtWhole lesser greater plus aabb-minus negated scaled divided least greatest dot minor cross along within allWithin allAtMost allEqual vectorAt pointAt admittedRay emptyBox grown union ofThree extent areaOf area bounded isEmpty usable boxAt reach first second parallel unlessLater clipped narrowed andThen ahead onAxis slabFrom slab triangleAt boundsOf centroidOf admittedTriangle boundsAt centroidAt edge1 edge2 pvec det invDet tvec qvec uOf vOf tOf judged distance faces hitAt boxFrom nodeBox centroidsFrom centroidBox noBin withBox joinBins binOf place filled suffixOf weight costOf betterOf sweepFrom tryAxis leafCost chosen bestSplit moves lower parted underAt builder-ahead insert sorted ordered settled separated joined decision leafOf grow boxPut linkPut boxesOf linksOf upTo room firstRefused finished checked cramped built nodeAt sound leftOf rightOf boxed replaces nearer after tested scan openLeaf openInternal opened scene-judged visit hitOf over run misfit walk isNan lt le eq add sub mul div neg ofBits ofInt sum round units odd size span climb trailingZeros
+table = tt
+
+-- P1 to P12
+pub probes-hold : All probes
+probes-hold = claims probes table

@@ -1,0 +1,107 @@
+-- Demand 3 reads for each place of a sky of rays over a built tree: a place tells what the single walk answers, and that meets it. Assumes nothing.
+use mathlib.Core.Path.{_≡_, refl, ap, _∙_}
+use mathlib.Core.Logic.{inl, inr}
+use mathlib.Core.List.{List, _++_}
+use Prim.Native.Nat.{ℕ, _*_, _/_, _%_, _≤_, _<_}
+use native.Mathlib.Omega.{arith}
+use lib.Dec.{T}
+use lib.ListN.{length, drop}
+use lib.Ieee.{Float}
+use Rattle.float.specs.Number.{nought}
+use Rattle.aabb.specs.declared.vector.Ray.{Ray}
+use Rattle.aabb.specs.Vector.{admittedRay}
+use Rattle.triangle.specs.declared.Hit.{Hit}
+use Rattle.triangle.specs.declared.Found.{Found}
+use Rattle.triangle.specs.declared.Found.the-variants.{At, Nothing}
+use Rattle.builder.specs.declared.Built.{Built}
+use Rattle.builder.specs.declared.Built.the-variants.{Tree as Grew, Refused}
+use Rattle.builder.specs.Build.{Outcome, built}
+use Rattle.builder.proofs.Successes.{success, accepted as accepted-lists}
+use Rattle.walk.specs.declared.rays.Filled.the-variants.{Places}
+use Rattle.walk.specs.declared.rays.Place.{Place}
+use Rattle.walk.specs.Lent.{Lent, most-triangles, triangleCount}
+use Rattle.walk.specs.Answer.{Told, none}
+use Rattle.walk.specs.Walk.{walk}
+use Rattle.walk.specs.Tree.{Tree}
+use Rattle.walk.specs.Sky.{rayCount, rayAt, placed, placeOf, places, timesOf, toldOf, placeAt, Outcome as Filling, outcome, sky}
+use Rattle.walk.proofs.Room.{place-k}
+use Rattle.walk.proofs.Whole.{sky-filled}
+use Rattle.demands.specs.Handed.{handedAs, handed}
+use Rattle.demands.specs.Demand.{Demand3}
+use Rattle.demands.specs.Sky.{Demand3At, SignedPlace, SignedSky}
+use Rattle.demands.proofs.Demand.{built-walk}
+
+-- ---- what a place tells of a walk that is served
+hit-place : (a : Told) (h : Hit) → a .refusal ≡ none → a .hit ≡ At h → placeOf a ≡ record { outcome = 100; which = h .triangle; t = h .t; boxes = a .boxes; triangles = a .triangles }
+unfolding placeOf placed
+hit-place a h e f = rw (e, f)
+
+miss-place : (a : Told) → a .refusal ≡ none → a .hit ≡ Nothing → placeOf a ≡ record { outcome = 0; which = 0; t = nought; boxes = a .boxes; triangles = a .triangles }
+unfolding placeOf placed
+miss-place a e f = rw (e, f)
+
+module _ (s : Lent) (t : Tree) (r : Ray) (D : Demand3 s t r) where
+  by-hit : (f : Found) → walk s r .hit ≡ f → Demand3At s t r (placeOf (walk s r))
+  by-hit (At h) e =
+      let q = hit-place (walk s r) h (D .served) e in
+      let out = ap (λ (p : Place). p .outcome) q in
+      let boxes = ap (λ (p : Place). p .boxes) q in
+      let tests = ap (λ (p : Place). p .triangles) q in
+      record {
+        served = inl out;
+        box-tests = boxes ∙ D .box-tests;
+        triangle-tests = tests ∙ D .triangle-tests;
+        most-boxes = omega (arith, boxes, D .most-boxes);
+        most-triangles = omega (arith, tests, D .most-triangles);
+        hit = λ o. record { hit = h; triangle = ap (λ (p : Place). p .which) q; t-is = ap (λ (p : Place). p .t) q; nearest = D .hit h e };
+        no-hit = λ o. absurd (omega (arith, out, o));
+      }
+  by-hit Nothing e =
+      let q = miss-place (walk s r) (D .served) e in
+      let out = ap (λ (p : Place). p .outcome) q in
+      let boxes = ap (λ (p : Place). p .boxes) q in
+      let tests = ap (λ (p : Place). p .triangles) q in
+      record {
+        served = inr out;
+        box-tests = boxes ∙ D .box-tests;
+        triangle-tests = tests ∙ D .triangle-tests;
+        most-boxes = omega (arith, boxes, D .most-boxes);
+        most-triangles = omega (arith, tests, D .most-triangles);
+        hit = λ o. absurd (omega (arith, out, o));
+        no-hit = λ o. D .no-hit e;
+      }
+
+  pub demand-3-at : (p : Place) → p ≡ placeOf (walk s r) → Demand3At s t r p
+  demand-3-at p e = rw e (by-hit (walk s r .hit) refl)
+
+-- ---- a built tree
+handed-mesh : (mesh : List Float) (o : Outcome) → handed mesh o .triangles ≡ mesh
+unfolding handed handedAs
+handed-mesh mesh o = go (o .answer)
+  where
+    go : (b : Built) → handedAs mesh o b .triangles ≡ mesh
+    go (Grew nodes leaves) = refl
+    go (Refused number at) = refl
+
+module _ (mesh : List Float) (index : List ℕ) (boxes : List Float) (links : List ℕ) (nodes leaf-count : ℕ) (rays times : List Float) (told : List ℕ) where
+  abbrev s : Lent
+  s = handed mesh (built mesh index boxes links)
+
+  abbrev filling : Filling
+  filling = outcome Places (timesOf (places s rays (rayCount rays)) ++ drop (rayCount rays) times) (toldOf (places s rays (rayCount rays)) ++ drop (rayCount rays * 4) told)
+
+  -- Demand 3 reads for each place: an unchanged built tree over its own triangles, rays in sixes, answer room that suffices, and each ray that is admitted, whatever the others are.
+  pub built-sky : built mesh index boxes links .answer ≡ Grew nodes leaf-count → length rays % 6 ≡ 0 → rayCount rays ≤ length times → rayCount rays * 4 ≤ length told
+      → SignedSky s nodes leaf-count rays (sky s rays times told)
+  built-sky e sixes timed roomy =
+      let A = accepted-lists mesh index boxes links nodes leaf-count (built mesh index boxes links) (success mesh index boxes links nodes leaf-count (built mesh index boxes links) e refl) in
+      let m = handed-mesh mesh (built mesh index boxes links) in
+      let whole : length (s .triangles) % 12 ≡ 0 = ap (λ (l : List Float). length l % 12) m ∙ A .whole in
+      let few : triangleCount (s .triangles) ≤ most-triangles = omega (arith, ap (λ (l : List Float). length l / 12) m, A .few) in
+      let is : filling ≡ sky s rays times told = sky-filled s rays times told whole few sixes timed roomy _ _ refl refl in
+      rw (← is) (record { served = refl; each = place })
+    where
+      place : (k : ℕ) → k < rayCount rays → T (admittedRay (rayAt rays k)) → SignedPlace s nodes leaf-count (rayAt rays k) (placeAt (filling .times) (filling .told) k)
+      place k h R =
+          let w = built-walk mesh index boxes links nodes leaf-count (rayAt rays k) e R in
+          record { walked = w; told = demand-3-at s (w .tree) (rayAt rays k) (w .answer) (placeAt (filling .times) (filling .told) k) (place-k s rays times told (rayCount rays) k h) }

@@ -1,0 +1,17 @@
+-- A built tree is handed to the walk as its 2L-1 nodes and n index entries, without spare room. Definitions only.
+use Prim.Native.Nat.{_*_}
+use mathlib.Core.List.{List, []}
+use lib.ListN.{take}
+use lib.Ieee.{Float}
+use Rattle.builder.specs.declared.Built.{Built}
+use Rattle.builder.specs.declared.Built.the-variants.{Tree, Refused}
+use Rattle.builder.specs.Build.{Outcome}
+use Rattle.walk.specs.Lent.{Lent, lent, triangleCount}
+
+-- a refused build hands over nothing
+unfoldable pub handedAs : List Float → Outcome → Built → Lent
+handedAs mesh o (Tree nodes leaves) = lent mesh (take (triangleCount mesh) (o .index)) (take (nodes * 6) (o .boxes)) (take (nodes * 3) (o .links))
+handedAs mesh o (Refused number at) = lent mesh [] [] []
+
+unfoldable pub handed : List Float → Outcome → Lent
+handed mesh o = handedAs mesh o (o .answer)

@@ -1,0 +1,148 @@
+-- The probe table, P1 to P12: what is asked, and every number that must come of it. Definitions only.
+use Prim.Native.Nat.{ℕ, zero, suc, _+_, _*_}
+use mathlib.Core.Path.{_≡_}
+use mathlib.Core.Bool.{Bool, true, false}
+use mathlib.Core.List.{List, [], _∷_, _++_}
+use lib.ListN.{replicate}
+use lib.IntN.{pos, negsuc}
+use lib.Ieee.{Float, inf, fin}
+use Rattle.aabb.specs.declared.vector.Vec3.{Vec3}
+use Rattle.aabb.specs.declared.vector.Ray.{Ray}
+use Rattle.aabb.specs.declared.bounds.Aabb.{Aabb}
+use Rattle.aabb.specs.declared.slab.Span.{Span}
+use Rattle.aabb.specs.declared.slab.Span.the-variants.{Passed, Missed}
+use Rattle.aabb.specs.Vector.{vec}
+use Rattle.aabb.specs.Bounds.{box, emptyBox}
+use Rattle.aabb.specs.Slab.{slab}
+use Rattle.triangle.specs.declared.Found.the-variants.{At, Nothing}
+use Rattle.builder.specs.declared.Built.the-variants.{Tree}
+use Rattle.builder.specs.declared.split.SplitDecision.{SplitDecision}
+use Rattle.builder.specs.declared.split.SplitDecision.the-variants.{Split}
+use Rattle.builder.specs.Tree.{decision}
+use Rattle.builder.specs.Build.{Outcome, outcome, room, upTo, built}
+use Rattle.walk.specs.Lent.{triangleCount}
+use Rattle.walk.specs.Answer.{Told, none}
+use Rattle.walk.specs.Walk.{walk}
+use Rattle.demands.specs.Handed.{handed}
+
+-- ---- numbers: n, for a whole n that is odd or 0; m·2^k; m/2^k (k from 1); and their negatives
+abbrev int : ℕ → Float
+int n = fin false n (pos 0)
+
+abbrev times : ℕ → ℕ → Float
+times m k = fin false m (pos k)
+
+abbrev over : ℕ → ℕ → Float
+over m zero = fin false m (pos 0)
+over m (suc k) = fin false m (negsuc k)
+
+abbrev minus : ℕ → Float
+minus n = fin true n (pos 0)
+
+abbrev quarter : Float
+quarter = over 1 2
+
+-- ---- what is asked
+pub data Probe : Type 0 where
+  -- a ray against a box: the times, or none
+  slabbed : Ray → Aabb → Span → Probe
+  -- the split of a whole mesh
+  split : List Float → SplitDecision → Probe
+  -- a mesh, built in room that just suffices
+  grown : List Float → Outcome → Probe
+  -- a ray walked through the built tree of a mesh
+  walked : List Float → Ray → Told → Probe
+
+-- built in room that just suffices
+unfoldable pub builtWhole : List Float → Outcome
+builtWhole mesh = built mesh (replicate (triangleCount mesh) 0) (replicate (room (triangleCount mesh) * 6) (int 0)) (replicate (room (triangleCount mesh) * 3) 0)
+
+abbrev pub Claim : Probe → Type 0
+Claim (slabbed r b s) = slab r b ≡ s
+Claim (split mesh d) = decision mesh (upTo (triangleCount mesh)) ≡ d
+Claim (grown mesh o) = builtWhole mesh ≡ o
+Claim (walked mesh r t) = walk (handed mesh (builtWhole mesh)) r ≡ t
+
+-- every row's claim
+abbrev pub All : List Probe → Type 0
+All [] = Unit {0}
+All (p ∷ ps) = Claim p × All ps
+
+-- ---- what the rows speak of
+abbrev ray : Vec3 → Vec3 → Ray
+ray o d = record { origin = o; direction = d }
+
+-- Down is (0,0,-1)
+abbrev down : Float → Float → Float → Ray
+down x y z = ray (vec x y z) (vec (int 0) (int 0) (minus 1))
+
+abbrev missed : ℕ → ℕ → Told
+missed b c = record { refusal = none; hit = Nothing; boxes = b; triangles = c }
+
+abbrev struck : Float → Vec3 → Vec3 → Bool → ℕ → ℕ → ℕ → Told
+struck t point normal front k b c = record { refusal = none; hit = At (record { t = t; point = point; normal = normal; front = front; triangle = k }); boxes = b; triangles = c }
+
+-- T is (0,0,0), (1,0,0), (0,1,0), normal (0,0,1)
+abbrev up : Vec3
+up = vec (int 0) (int 0) (int 1)
+
+abbrev triangle : Float → Float → Float → List Float
+triangle s t h = s ∷ int 0 ∷ int 0 ∷ t ∷ int 0 ∷ int 0 ∷ s ∷ h ∷ int 0 ∷ int 0 ∷ int 0 ∷ int 1 ∷ []
+
+abbrev T : List Float
+T = triangle (int 0) (int 1) (int 1)
+
+abbrev flat : List Float
+flat = int 0 ∷ int 0 ∷ int 0 ∷ int 1 ∷ int 1 ∷ int 0 ∷ []
+
+abbrev infinite : List Float
+infinite = inf false ∷ inf false ∷ inf false ∷ inf true ∷ inf true ∷ inf true ∷ []
+
+abbrev unit : Aabb
+unit = box (vec (int 0) (int 0) (int 0)) (vec (int 1) (int 1) (int 1))
+
+-- (s,0,0), (s+3,0,0), (s,3,0), normal (0,0,1), s = 0, 16, 32, 48, 64
+abbrev five : List Float
+five = triangle (int 0) (int 3) (int 3) ++ triangle (times 1 4) (int 19) (int 3) ++ triangle (times 1 5) (int 35) (int 3) ++ triangle (times 3 4) (int 51) (int 3) ++ triangle (times 1 6) (int 67) (int 3)
+
+abbrev along-x : Float → Float → List Float
+along-x a b = a ∷ int 0 ∷ int 0 ∷ b ∷ int 3 ∷ int 0 ∷ []
+
+-- ---- the table
+unfoldable pub probes : List Probe
+probes =
+    -- P1 n = 0: one node; slab on its box with direction (1,1,1): (0, +inf); with Down: none
+    grown [] (outcome (Tree 1 1) [] infinite (0 ∷ 0 ∷ 1 ∷ [])) ∷
+    slabbed (ray (vec quarter quarter (int 1)) (vec (int 1) (int 1) (int 1))) emptyBox (Passed (int 0) (inf false)) ∷
+    slabbed (down quarter quarter (int 1)) emptyBox Missed ∷
+    walked [] (ray (vec quarter quarter (int 1)) (vec (int 1) (int 1) (int 1))) (missed 1 0) ∷
+    walked [] (down quarter quarter (int 1)) (missed 1 0) ∷
+    -- P2 T, origin (0.25,0.25,1), Down: t 1, point (0.25,0.25,0), front; counts 1, 1
+    grown T (outcome (Tree 1 1) (0 ∷ []) flat (0 ∷ 1 ∷ 1 ∷ [])) ∷
+    walked T (down quarter quarter (int 1)) (struck (int 1) (vec quarter quarter (int 0)) up true 0 1 1) ∷
+    -- P3 T, origin (0.25,0.25,-1), direction (0,0,1): t 1, back, normal z -1
+    walked T (ray (vec quarter quarter (minus 1)) up) (struck (int 1) (vec quarter quarter (int 0)) (vec (minus 0) (minus 0) (minus 1)) false 0 1 1) ∷
+    -- P4 T, origin (0.75,0.75,1), Down: miss; 1, 1
+    walked T (down (over 3 2) (over 3 2) (int 1)) (missed 1 1) ∷
+    -- P5 T, origin (2,0.25,1), Down: miss; 1, 0
+    walked T (down (times 1 1) quarter (int 1)) (missed 1 0) ∷
+    -- P6 T, origin (0.5,0.5,1), Down: hit, t 1 (u+v = 1)
+    walked T (down (over 1 1) (over 1 1) (int 1)) (struck (int 1) (vec (over 1 1) (over 1 1) (int 0)) up true 0 1 1) ∷
+    -- P7 T, origin z 2^-20, x = y = 0.25, Down: miss; z 2^-19: hit
+    walked T (down quarter quarter (over 1 20)) (missed 1 1) ∷
+    walked T (down quarter quarter (over 1 19)) (struck (over 1 19) (vec quarter quarter (int 0)) up true 0 1 1) ∷
+    -- P8 box (0,0,0) to (1,1,1), origin (0.5,0.5,2): direction (0,0,-2^-40) none; (0,0,-2^-39) gives (2^39, 2^40)
+    slabbed (ray (vec (over 1 1) (over 1 1) (times 1 1)) (vec (int 0) (int 0) (fin true 1 (negsuc 39)))) unit Missed ∷
+    slabbed (ray (vec (over 1 1) (over 1 1) (times 1 1)) (vec (int 0) (int 0) (fin true 1 (negsuc 38)))) unit (Passed (times 1 39) (times 1 40)) ∷
+    -- P9 five copies of T: one leaf of 5
+    grown (T ++ T ++ T ++ T ++ T) (outcome (Tree 1 1) (0 ∷ 1 ∷ 2 ∷ 3 ∷ 4 ∷ []) (flat ++ replicate 48 (int 0)) (0 ∷ 5 ∷ 1 ∷ replicate 24 0)) ∷
+    -- P10 five triangles: split on x at 21; index list 0,1,3,4,2; root left 1; leaves (0,2) and (2,3)
+    split five (Split 0 (int 21)) ∷
+    grown five
+    (outcome (Tree 3 2) (0 ∷ 1 ∷ 3 ∷ 4 ∷ 2 ∷ []) (along-x (int 0) (int 67) ++ along-x (int 0) (int 19) ++ along-x (times 1 5) (int 67) ++ replicate 36 (int 0))
+    (1 ∷ 0 ∷ 0 ∷ 0 ∷ 2 ∷ 1 ∷ 2 ∷ 3 ∷ 1 ∷ replicate 18 0)) ∷
+    -- P11 P10, origin (17,1,1), Down: triangle 1, t 1; 3, 2
+    walked five (down (int 17) (int 1) (int 1)) (struck (int 1) (vec (int 17) (int 1) (int 0)) up true 1 3 2) ∷
+    -- P12 P10, origin (25,1,1), Down: miss; 3, 0
+    walked five (down (int 25) (int 1) (int 1)) (missed 3 0) ∷
+    []

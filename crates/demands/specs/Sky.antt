@@ -1,0 +1,44 @@
+-- Demand 3, read from one place of a sky of rays: the numbers that a caller finds there, and nothing else. Definitions only.
+use mathlib.Core.Path.{_≡_}
+use mathlib.Core.Logic.{_⊎_}
+use mathlib.Core.List.{List}
+use Prim.Native.Nat.{ℕ, _+_, _*_, _≤_, _<_}
+use lib.Dec.{T}
+use lib.ListN.{length}
+use lib.Ieee.{Float}
+use Rattle.aabb.specs.declared.vector.Ray.{Ray}
+use Rattle.aabb.specs.Vector.{admittedRay}
+use Rattle.triangle.specs.declared.Hit.{Hit}
+use Rattle.walk.specs.declared.rays.Place.{Place}
+use Rattle.walk.specs.declared.rays.Filled.the-variants.{Places}
+use Rattle.walk.specs.Lent.{Lent, triangleCount}
+use Rattle.walk.specs.Tree.{Tree, leaves, entered, reached}
+use Rattle.walk.specs.NearestHit.{All, NearestAt, NothingAt}
+use Rattle.walk.specs.Sky.{rayCount, rayAt, placeAt, Outcome as Filling}
+use Rattle.demands.specs.Demand.{Signed}
+
+-- the place tells the triangle and t of the nearest
+pub record TellsNearest (s : Lent) (t : Tree) (r : Ray) (p : Place) : Type 0 where
+  pub hit : Hit
+  pub triangle : p .which ≡ hit .triangle
+  pub t-is : p .t ≡ hit .t
+  pub nearest : NearestAt s r (reached r t) hit
+
+pub record Demand3At (s : Lent) (t : Tree) (r : Ray) (p : Place) : Type 0 where
+  -- a hit or a miss
+  pub served : (p .outcome ≡ 100) ⊎ (p .outcome ≡ 0)
+  pub box-tests : p .boxes ≡ 1 + 2 * entered r t
+  pub triangle-tests : p .triangles ≡ length (reached r t)
+  pub most-boxes : p .boxes + 1 ≤ 2 * leaves t
+  pub most-triangles : p .triangles ≤ triangleCount (s .triangles)
+  pub hit : p .outcome ≡ 100 → TellsNearest s t r p
+  pub no-hit : p .outcome ≡ 0 → All (NothingAt s r) (reached r t)
+
+-- ---- what is signed
+pub record SignedPlace (s : Lent) (nodes leaf-count : ℕ) (r : Ray) (p : Place) : Type 0 where
+  pub walked : Signed s nodes leaf-count r
+  pub told : Demand3At s (walked .tree) r p
+
+pub record SignedSky (s : Lent) (nodes leaf-count : ℕ) (rays : List Float) (o : Filling) : Type 0 where
+  pub served : o .answer ≡ Places
+  pub each : (k : ℕ) → k < rayCount rays → T (admittedRay (rayAt rays k)) → SignedPlace s nodes leaf-count (rayAt rays k) (placeAt (o .times) (o .told) k)

@@ -1,0 +1,37 @@
+-- The outcome of `sky`, told part by part. Assumes nothing.
+use Prim.Native.Nat.{ℕ}
+use mathlib.Core.Path.{_≡_}
+use mathlib.Core.List.{List}
+use lib.Ieee.{Float}
+use Rattle.walk.specs.declared.rays.Filled.{Filled}
+use Rattle.walk.specs.Sky.{Outcome, outcome}
+use Rattle.pigeonmast.specs.Report.{sky, skyAnswer, skyAt, skyReport}
+use borrow.Author.Needs.{needs}
+use Rattle.pigeonmast.proofs.pigeonmast_sky.Statement.{statement}
+use Rattle.pigeonmast.proofs.pigeonmast_sky.Tie as tie
+
+-- the report of an outcome, by its parts
+reported : (r : Filled) (times : List Float) (told : List ℕ) (o : Outcome) (n : ℕ) (at : List ℕ)
+    → outcome r times told ≡ o → n ≡ skyAnswer r → at ≡ skyAt r → sky n at times told ≡ skyReport o
+unfolding skyReport
+reported r times told o n at e p q = rw (← e, p, q)
+
+sky-requires : tie.Need-sky-requires
+sky-requires c κs = search needs
+
+tell-sky-requires : tie.Need-tell-sky-requires
+tell-sky-requires c κs = search needs
+
+same-length : tie.Need-same-length
+same-length c = search needs
+
+same-length-2 : tie.Need-same-length-2
+same-length-2 c = search needs
+
+returns : tie.Need-returns
+returns c = reported _ _ _ _ _ _ (c .before .before .before .before .before .before .sky .ensures) (c .tell-sky .ensures .0) (c .tell-sky .ensures .1)
+
+pub pigeonmast-sky-spec : {M : Type 1} → statement M
+pigeonmast-sky-spec =
+    tie.close
+    (tie.spec sky-requires tell-sky-requires same-length same-length-2 returns)

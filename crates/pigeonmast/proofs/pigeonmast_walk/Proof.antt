@@ -1,0 +1,20 @@
+-- By what the calls ensure. Assumes nothing.
+use borrow.Author.Needs.{needs}
+use Rattle.pigeonmast.proofs.pigeonmast_walk.Statement.{statement}
+use Rattle.pigeonmast.proofs.pigeonmast_walk.Tie as tie
+
+ray-of-requires : tie.Need-ray-of-requires
+ray-of-requires c κs = search needs
+
+walk-requires : tie.Need-walk-requires
+walk-requires c κs = search needs
+
+tell-walk-requires : tie.Need-tell-walk-requires
+tell-walk-requires c κs = search needs
+
+returns : tie.Need-returns
+returns c = cc
+
+pub pigeonmast-walk-spec : {M : Type 1} → statement M
+pigeonmast-walk-spec =
+    tie.close (tie.spec ray-of-requires walk-requires tell-walk-requires returns)

@@ -1,0 +1,22 @@
+-- By cases of the answer. Assumes nothing.
+use Rattle.pigeonmast.specs.Report.{skyAnswer, skyAt}
+use borrow.Author.Needs.{needs}
+use Rattle.pigeonmast.proofs.tell_sky.Statement.{statement}
+use Rattle.pigeonmast.proofs.tell_sky.Tie as tie
+
+enum-told : tie.Need-enum-told
+enum-told c = search needs
+
+enum-known-answer : tie.Need-enum-known-answer
+enum-known-answer c = search needs
+
+returns : tie.Need-returns
+unfolding skyAnswer skyAt
+returns c = (rw (c .before .enum-told .given .1), rw (c .before .enum-told .given .1))
+
+returns-2 : tie.Need-returns-2
+unfolding skyAnswer skyAt
+returns-2 c = (rw (c .before .before .answer .given .1), rw (c .before .before .answer .given .1))
+
+pub tell-sky-spec : {M : Type 1} → statement M
+tell-sky-spec = tie.close (tie.spec enum-told enum-known-answer returns returns-2)

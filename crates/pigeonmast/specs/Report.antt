@@ -1,0 +1,124 @@
+-- What each exported call answers and leaves in the lent arrays, as the comment at the call says (src/lib.rt). Definitions only.
+use Prim.Native.Nat.{ℕ}
+use mathlib.Core.Bool.{cond}
+use mathlib.Core.List.{List, [], _∷_}
+use lib.Ieee.{Float}
+use Rattle.aabb.specs.declared.vector.Ray.{Ray}
+use Rattle.aabb.specs.declared.slab.Span.{Span}
+use Rattle.aabb.specs.declared.slab.Span.the-variants.{Passed, Missed}
+use Rattle.aabb.specs.Vector.{vectorAt}
+use Rattle.triangle.specs.declared.Hit.{Hit}
+use Rattle.triangle.specs.declared.Found.{Found}
+use Rattle.triangle.specs.declared.Found.the-variants.{At, Nothing}
+use Rattle.builder.specs.declared.Built.{Built}
+use Rattle.builder.specs.declared.Built.the-variants.{Tree, Refused}
+use Rattle.builder.specs.Build.{Outcome}
+use Rattle.walk.specs.Answer.{Refusal, none, numbered, Told}
+use Rattle.walk.specs.declared.rays.Filled.{Filled}
+use Rattle.walk.specs.declared.rays.Filled.the-variants.{Places, Refused as Unfilled}
+use Rattle.walk.specs.Sky.{Outcome as Filling}
+
+-- ---- what passes as numbers
+-- a ray: origin, direction
+unfoldable pub rayOf : List Float → Ray
+rayOf numbers = record { origin = vectorAt numbers 0; direction = vectorAt numbers 3 }
+
+-- numbers = t, point, normal
+unfoldable pub hitNumbers : Hit → List Float
+hitNumbers h =
+    h .t ∷ h .point .x ∷ h .point .y ∷ h .point .z ∷ h .normal .x ∷ h .normal .y ∷ h .normal .z ∷ []
+
+-- front (1 or 0)
+unfoldable pub frontNumber : Hit → ℕ
+frontNumber h = cond (h .front) 1 0
+
+-- 2 front or 1 back
+unfoldable pub sideNumber : Hit → ℕ
+sideNumber h = cond (h .front) 2 1
+
+-- ---- pigeonmast_build
+-- the number, and what told, the index list, the boxes and the links hold at the end
+pub record Build : Type 0 where
+  pub answer : ℕ
+  pub told : List ℕ
+  pub index : List ℕ
+  pub boxes : List Float
+  pub links : List ℕ
+
+abbrev pub build : ℕ → List ℕ → List ℕ → List Float → List ℕ → Build
+build answer told index boxes links = record { answer = answer; told = told; index = index; boxes = boxes; links = links }
+
+-- 0, or the refusal number
+unfoldable pub buildAnswer : Built → ℕ
+buildAnswer (Tree nodes leaves) = 0
+buildAnswer (Refused number at) = number
+
+-- told = node count, leaf count; or told = at, 0
+unfoldable pub buildTold : Built → List ℕ
+buildTold (Tree nodes leaves) = nodes ∷ leaves ∷ []
+buildTold (Refused number at) = at ∷ 0 ∷ []
+
+unfoldable pub buildReport : Outcome → Build
+buildReport o = build (buildAnswer (o .answer)) (buildTold (o .answer)) (o .index) (o .boxes) (o .links)
+
+-- ---- pigeonmast_walk
+-- the number, and what numbers and told hold at the end
+pub record Walk : Type 0 where
+  pub answer : ℕ
+  pub numbers : List Float
+  pub told : List ℕ
+
+abbrev pub walk : ℕ → List Float → List ℕ → Walk
+walk answer numbers told = record { answer = answer; numbers = numbers; told = told }
+
+-- 100 for a hit: numbers = t, point, normal; told = triangle, front (1 or 0), box tests, triangle tests. 0 for a miss: told = 0, 0, box tests,
+-- triangle tests. Else the refusal number: told = at, 0, 0, 0. numbers stay unchanged unless it is a hit
+unfoldable pub walkReport : Refusal → Found → ℕ → ℕ → List Float → Walk
+walkReport none (At h) boxes triangles numbers = walk 100 (hitNumbers h) (h .triangle ∷ frontNumber h ∷ boxes ∷ triangles ∷ [])
+walkReport none Nothing boxes triangles numbers = walk 0 numbers (0 ∷ 0 ∷ boxes ∷ triangles ∷ [])
+walkReport (numbered number at) hit boxes triangles numbers = walk number numbers (at ∷ 0 ∷ 0 ∷ 0 ∷ [])
+
+unfoldable pub walked : Told → List Float → Walk
+walked a numbers = walkReport (a .refusal) (a .hit) (a .boxes) (a .triangles) numbers
+
+-- ---- pigeonmast_sky
+-- the number, and what at, times and told hold at the end
+pub record Sky : Type 0 where
+  pub answer : ℕ
+  pub at : List ℕ
+  pub times : List Float
+  pub told : List ℕ
+
+abbrev pub sky : ℕ → List ℕ → List Float → List ℕ → Sky
+sky answer at times told = record { answer = answer; at = at; times = times; told = told }
+
+-- 0, or the refusal number with its at
+unfoldable pub skyAnswer : Filled → ℕ
+skyAnswer Places = 0
+skyAnswer (Unfilled number at) = number
+
+unfoldable pub skyAt : Filled → List ℕ
+skyAt Places = 0 ∷ []
+skyAt (Unfilled number at) = at ∷ []
+
+unfoldable pub skyReport : Filling → Sky
+skyReport o = sky (skyAnswer (o .answer)) (skyAt (o .answer)) (o .times) (o .told)
+
+-- ---- pigeonmast_slab and pigeonmast_triangle
+-- the number, and what times or numbers hold at the end
+pub record Test : Type 0 where
+  pub answer : ℕ
+  pub numbers : List Float
+
+abbrev pub test : ℕ → List Float → Test
+test answer numbers = record { answer = answer; numbers = numbers }
+
+-- 1 and times = enter, exit; or 0 and times unchanged
+unfoldable pub slabReport : Span → List Float → Test
+slabReport (Passed enter exit) times = test 1 (enter ∷ exit ∷ [])
+slabReport Missed times = test 0 times
+
+-- 2 front or 1 back with numbers = t, point, normal; or 0 and numbers unchanged
+unfoldable pub triangleReport : Found → List Float → Test
+triangleReport (At h) numbers = test (sideNumber h) (hitNumbers h)
+triangleReport Nothing numbers = test 0 numbers

@@ -1,0 +1,225 @@
+// The calls for Rust and C, built by `rt staticlib pigeonmast`. Each is a public call of the layers below, with its data as plain numbers: a slice
+// passes as pointer and length, `&[f64; 6]` as a pointer. No call asks anything of the numbers; what a call answers and what it leaves in
+// everything lent is fixed on every input (specs/Report.antt).
+use aabb::Aabb;
+use aabb::Ray;
+use aabb::Span;
+use aabb::Vec3;
+use builder::Built;
+use walk::Answer;
+use walk::Filled;
+use triangle::Found;
+use triangle::Hit;
+use triangle::Triangle;
+ghost use mathlib.Core.Path.{_≡_};
+ghost use Rattle.aabb.specs.Bounds.{boxAt};
+ghost use Rattle.aabb.specs.Slab.{slab};
+ghost use Rattle.triangle.specs.Mesh.{triangleAt};
+ghost use Rattle.triangle.specs.Meeting.{strike};
+ghost use Rattle.builder.specs.Build.{built};
+ghost use Rattle.walk.specs.Lent.{lent};
+ghost use Rattle.walk.specs.Answer.{told as answered};
+ghost use Rattle.walk.specs.Walk as scene;
+ghost use Rattle.walk.specs.Sky.{sky as filling};
+ghost use Rattle.pigeonmast.specs.Report.{rayOf, hitNumbers, frontNumber, sideNumber, build, buildAnswer, buildTold, buildReport, walk, walked, sky, skyAnswer, skyAt, skyReport, test, slabReport, triangleReport};
+
+// A ray from its six numbers: origin, direction.
+fn ray_of(numbers: &[f64; 6]) -> Ray
+    ensures { λ r. ⌜ r ≡ rayOf (now (numbers .entry)) ⌝ }
+{
+    let origin = Vec3::read(numbers, 0);
+    let direction = Vec3::read(numbers, 3);
+    Ray { origin, direction }
+}
+
+// A hit's seven numbers: t, point, normal.
+fn hit_numbers(hit: Hit) -> [f64; 7]
+    ensures { λ r. ⌜ r ≡ hitNumbers hit ⌝ }
+{
+    [
+        hit.t,
+        hit.point.x,
+        hit.point.y,
+        hit.point.z,
+        hit.normal.x,
+        hit.normal.y,
+        hit.normal.z,
+    ]
+}
+
+// 1 for a hit from the front, 0 from the back.
+fn front_number(hit: Hit) -> u64
+    ensures { λ r. ⌜ r ≡ frontNumber hit ⌝ }
+{
+    if hit.front { 1 } else { 0 }
+}
+
+// 2 for a hit from the front, 1 from the back.
+fn side_number(hit: Hit) -> u32
+    ensures { λ r. ⌜ r ≡ sideNumber hit ⌝ }
+{
+    if hit.front { 2 } else { 1 }
+}
+
+// What a build answered: the number, with `told` written.
+fn tell_build(answer: Built, told: &mut [u64; 2]) -> u32
+    ensures { λ r. ⌜ r ≡ buildAnswer answer ⌝ }
+    ensures { λ _. ⌜ now (told .exit) ≡ buildTold answer ⌝ }
+{
+    match answer {
+        Built::Tree { nodes, leaves } => {
+            *told = [nodes as u64, leaves as u64];
+            0
+        }
+        Built::Refused { number, at } => {
+            *told = [at as u64, 0];
+            number
+        }
+    }
+}
+
+// What a walk answered: the number, with `told` written, and `numbers` where it is a hit.
+fn tell_walk(answer: Answer, numbers: &mut [f64; 7], told: &mut [u64; 4]) -> u32
+    ensures { λ r. ⌜ walk r (now (numbers .exit)) (now (told .exit)) ≡ walked (answered answer) (now (numbers .entry)) ⌝ }
+{
+    match answer {
+        Answer::Struck {
+            hit,
+            boxes,
+            triangles,
+        } => {
+            *numbers = hit_numbers(hit);
+            *told = [hit.triangle as u64, front_number(hit), boxes, triangles];
+            100
+        }
+        Answer::Missed { boxes, triangles } => {
+            *told = [0, 0, boxes, triangles];
+            0
+        }
+        Answer::Refused { number, at } => {
+            *told = [at, 0, 0, 0];
+            number
+        }
+    }
+}
+
+// What a sky of rays answered: 0 or the refusal number, with `at` written.
+fn tell_sky(answer: Filled, at: &mut [u64; 1]) -> u32
+    ensures { λ r. ⌜ r ≡ skyAnswer answer ⌝ }
+    ensures { λ _. ⌜ now (at .exit) ≡ skyAt answer ⌝ }
+{
+    match answer {
+        Filled::Places => {
+            *at = [0];
+            0
+        }
+        Filled::Refused { number, at: place } => {
+            *at = [place];
+            number
+        }
+    }
+}
+
+// What a slab test answered: 1 with `times` written, or 0.
+fn tell_slab(span: Span, times: &mut [f64; 2]) -> u32
+    ensures { λ r. ⌜ test r (now (times .exit)) ≡ slabReport span (now (times .entry)) ⌝ }
+{
+    match span {
+        Span::Passed { enter, exit } => {
+            *times = [enter, exit];
+            1
+        }
+        Span::Missed => 0,
+    }
+}
+
+// What a triangle test answered: 2 front or 1 back with `numbers` written, or 0.
+fn tell_triangle(found: Found, numbers: &mut [f64; 7]) -> u32
+    ensures { λ r. ⌜ test r (now (numbers .exit)) ≡ triangleReport found (now (numbers .entry)) ⌝ }
+{
+    match found {
+        Found::At(hit) => {
+            *numbers = hit_numbers(hit);
+            side_number(hit)
+        }
+        Found::Nothing => 0,
+    }
+}
+
+// Builds the tree of the triangles (twelve numbers each: v0, v1, v2, normal) into the lent index list, boxes and links. 0 and told = node
+// count, leaf count; or the refusal number and told = at, 0. `builder::build` says what is written and what is refused.
+#[no_mangle]
+pub extern "C" fn pigeonmast_build(
+    triangles: &[f64],
+    index: &mut [u32],
+    boxes: &mut [f64],
+    links: &mut [u32],
+    told: &mut [u64; 2],
+) -> u32
+    ensures { λ r. ⌜ build r (now (told .exit)) (now (index .exit)) (now (boxes .exit)) (now (links .exit)) ≡ buildReport (built (now (triangles .entry)) (now (index .entry)) (now (boxes .entry)) (now (links .entry))) ⌝ }
+{
+    let answer = builder::build(triangles, index, boxes, links);
+    tell_build(answer, told)
+}
+
+// Walks the ray (origin, direction) through the tree. 100 for a hit: numbers = t, point, normal; told = triangle, front (1 or 0), box tests,
+// triangle tests. 0 for a miss: told = 0, 0, box tests, triangle tests. Else the refusal number of `walk::walk`: told = at, 0, 0, 0. numbers
+// stay unchanged unless it is a hit.
+#[no_mangle]
+pub extern "C" fn pigeonmast_walk(
+    triangles: &[f64],
+    index: &[u32],
+    boxes: &[f64],
+    links: &[u32],
+    ray: &[f64; 6],
+    numbers: &mut [f64; 7],
+    told: &mut [u64; 4],
+) -> u32
+    ensures { λ r. ⌜ walk r (now (numbers .exit)) (now (told .exit)) ≡ walked (scene.walk (lent (now (triangles .entry)) (now (index .entry)) (now (boxes .entry)) (now (links .entry))) (rayOf (now (ray .entry)))) (now (numbers .entry)) ⌝ }
+{
+    let answer = walk::walk(triangles, index, boxes, links, ray_of(ray));
+    tell_walk(answer, numbers, told)
+}
+
+// Walks every ray of `rays` (six numbers each: origin, direction) through the tree. 0 and at = 0: times has t of each ray's hit, else 0, and told
+// four numbers a ray: outcome (0 a miss, 100 a hit, else the refusal number), triangle or the refusal's at, box tests, triangle tests; room beyond
+// the rays stays. Or refusal 1, 2, 14 or 13 of the whole call (`walk::sky`) with its at; times and told stay unchanged.
+#[no_mangle]
+pub extern "C" fn pigeonmast_sky(
+    triangles: &[f64],
+    index: &[u32],
+    boxes: &[f64],
+    links: &[u32],
+    rays: &[f64],
+    times: &mut [f64],
+    told: &mut [u64],
+    at: &mut [u64; 1],
+) -> u32
+    ensures { λ r. ⌜ sky r (now (at .exit)) (now (times .exit)) (now (told .exit)) ≡ skyReport (filling (lent (now (triangles .entry)) (now (index .entry)) (now (boxes .entry)) (now (links .entry))) (now (rays .entry)) (now (times .entry)) (now (told .entry))) ⌝ }
+{
+    let answer = walk::sky(triangles, index, boxes, links, rays, times, told);
+    tell_sky(answer, at)
+}
+
+// The slab test of a box (min x, y, z, max x, y, z) and a ray (origin, direction). 1 and times = enter, exit; or 0 and times unchanged.
+#[no_mangle]
+pub extern "C" fn pigeonmast_slab(bounds: &[f64; 6], ray: &[f64; 6], times: &mut [f64; 2]) -> u32
+    ensures { λ r. ⌜ test r (now (times .exit)) ≡ slabReport (slab (rayOf (now (ray .entry))) (boxAt (now (bounds .entry)) 0)) (now (times .entry)) ⌝ }
+{
+    let span = Aabb::read(bounds, 0).intersect_ray(ray_of(ray));
+    tell_slab(span, times)
+}
+
+// The test of a triangle (v0, v1, v2, normal) and a ray (origin, direction). 2 front or 1 back with numbers = t, point, normal; or 0 and
+// numbers unchanged.
+#[no_mangle]
+pub extern "C" fn pigeonmast_triangle(
+    triangle: &[f64; 12],
+    ray: &[f64; 6],
+    numbers: &mut [f64; 7],
+) -> u32
+    ensures { λ r. ⌜ test r (now (numbers .exit)) ≡ triangleReport (strike (rayOf (now (ray .entry))) (triangleAt (now (triangle .entry)) 0) 0) (now (numbers .entry)) ⌝ }
+{
+    let found = Triangle::read(triangle, 0).intersect(ray_of(ray), 0);
+    tell_triangle(found, numbers)
+}

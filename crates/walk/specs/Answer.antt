@@ -1,0 +1,24 @@
+-- The walk's answer: document 01's number and values for every case. Definitions only.
+use Prim.Native.Nat.{ℕ}
+use Rattle.triangle.specs.declared.Found.{Found}
+use Rattle.triangle.specs.declared.Found.the-variants.{At, Nothing}
+use Rattle.walk.specs.declared.Answer.{Answer}
+use Rattle.walk.specs.declared.Answer.the-variants.{Struck, Missed, Refused}
+
+-- a refusal's number and `at`, or none
+pub data Refusal : Type 0 where
+  none : Refusal
+  numbered : ℕ → ℕ → Refusal
+
+-- the refusal if there is one, the hit if there is one, and the two counts
+pub record Told : Type 0 where
+  pub refusal : Refusal
+  pub hit : Found
+  pub boxes : ℕ
+  pub triangles : ℕ
+
+-- Its answer is one of: a hit with its numbers and counts, a miss with counts, a refusal.
+unfoldable pub told : Answer → Told
+told (Struck h b c) = record { refusal = none; hit = At h; boxes = b; triangles = c }
+told (Missed b c) = record { refusal = none; hit = Nothing; boxes = b; triangles = c }
+told (Refused k i) = record { refusal = numbered k i; hit = Nothing; boxes = 0; triangles = 0 }

@@ -1,0 +1,175 @@
+// The walk of one ray through one mesh: a port of `intersect_blas` of scene.rs, with the counts of the inner loop of cost.rs.
+// Left out, as document 01 says: the instances, their transforms and the top level. Added: every walk ends with a hit, a miss or a numbered
+// refusal, on any lists; the Rust panics on the 65th pending node and can run for ever on a looping tree.
+mod tally; // tally.rt: the counts and the hit so far
+mod pending; // pending.rt: the pending node numbers
+mod node; // node.rt: a node of the lent lists
+mod aim; // aim.rt: the ray, prepared for the box tests
+mod leaf; // leaf.rt: a leaf's triangles
+mod step; // step.rt: one step
+mod rays; // rays.rt: a sky of rays in one call
+
+use aabb::Ray;
+use aim::Aim;
+use pending::Pending;
+pub use rays::Filled;
+pub use rays::sky;
+use step::Turn;
+use tally::Nearest;
+use tally::Tally;
+use triangle::Hit;
+use triangle::Triangle;
+ghost use mathlib.Core.Path.{_≡_};
+ghost use mathlib.Core.List.{[], _∷_};
+ghost use Prim.Native.Nat.{_<_, _≤_, _%_};
+ghost use lib.ListN.{length};
+ghost use Rattle.walk.specs.Lent.{lent, triangleCount, most-triangles, nodeCount, most-nodes};
+ghost use Rattle.walk.specs.Answer.{told};
+ghost use Rattle.walk.specs.Walk.{over, start, run, misfit, walk};
+
+// The walk's answer: a hit with its numbers and counts, a miss with counts, or a refusal, with document 01's number and `at`.
+pub enum Answer {
+    Struck {
+        hit: Hit,
+        boxes: u64,
+        triangles: u64,
+    },
+    Missed {
+        boxes: u64,
+        triangles: u64,
+    },
+    Refused {
+        number: u32,
+        at: u64,
+    },
+}
+
+// The answer of a walk that has no node pending any more.
+fn over(triangles: &[f64], ray: Ray, a: Tally) -> Answer
+    ensures { λ r. ⌜ told r ≡ over (now (triangles .entry)) ray a ⌝ }
+{
+    let best = a.nearest;
+    match best {
+        Nearest::Unmet => Answer::Missed {
+            boxes: a.boxes,
+            triangles: a.triangles,
+        },
+        Nearest::Met { t, number } => {
+            let hit = Triangle::read(triangles, number as usize).hit(ray, t, number);
+            Answer::Struck {
+                hit,
+                boxes: a.boxes,
+                triangles: a.triangles,
+            }
+        }
+    }
+}
+
+// The steps, from the root on.
+fn run(triangles: &[f64], index: &[u32], boxes: &[f64], links: &[u32], ray: Ray) -> Answer
+    requires { ⌜ (0 < nodeCount (now links)) × (nodeCount (now links) ≤ most-nodes) ⌝ }
+    ensures { λ r. ⌜ told r ≡ run (lent (now (triangles .entry)) (now (index .entry)) (now (boxes .entry)) (now (links .entry))) ray (nodeCount (now (links .entry))) (0 ∷ []) start ⌝ }
+{
+    let nodes = links.len() / 3;
+    let aim = Aim::of(ray);
+    let mut pending = Pending::root();
+    // The last pending number, beside the state: a step need not wait for the array that was just copied.
+    let mut last: u32 = 0;
+    let mut a = Tally {
+        boxes: 0,
+        triangles: 0,
+        nearest: Nearest::Unmet,
+    };
+    while 0 < pending.len {
+        let besides = pending.len - 1;
+        let i = last;
+        if nodes <= a.boxes as usize {
+            return Answer::Refused {
+                number: 12,
+                at: i as u64,
+            };
+        }
+        match step::visit(triangles, index, boxes, links, aim, i, besides, a) {
+            Turn::Refuse { number, at } => {
+                return Answer::Refused { number, at };
+            }
+            Turn::Down(next) => {
+                a = next;
+                pending = pending.dropped();
+                if 0 < besides {
+                    last = pending.nodes[besides - 1];
+                }
+            }
+            Turn::Open { left, right, tally } => {
+                a = tally;
+                // Right, then left in the room beyond those that are pending besides.
+                pending.nodes[besides] = right;
+                pending.nodes[besides + 1] = left;
+                pending = pending.opened();
+                last = left;
+            }
+        }
+    }
+    over(triangles, ray, a)
+}
+
+// Refusal 8: links empty, not a multiple of 3, over 131,071 nodes, or boxes not twice as long as links.
+fn misfit(boxes: &[f64], links: &[u32]) -> bool
+    ensures { λ r. ⌜ r ≡ misfit (now (boxes .entry)) (now (links .entry)) ⌝ }
+{
+    let n = links.len();
+    if n == 0 {
+        return true;
+    }
+    if n % 3 != 0 {
+        return true;
+    }
+    if 131071 < n / 3 {
+        return true;
+    }
+    boxes.len() != 2 * n
+}
+
+// The walk of a ray after tests 1 and 2. `unfit` is what test 8 finds: like those two it is the same for every ray.
+fn cast(
+    triangles: &[f64],
+    index: &[u32],
+    boxes: &[f64],
+    links: &[u32],
+    unfit: bool,
+    ray: Ray,
+) -> Answer
+    requires { ⌜ (length (now triangles) % 12 ≡ 0) × (triangleCount (now triangles) ≤ most-triangles) × (unfit ≡ misfit (now boxes) (now links)) ⌝ }
+    ensures { λ r. ⌜ told r ≡ walk (lent (now (triangles .entry)) (now (index .entry)) (now (boxes .entry)) (now (links .entry))) ray ⌝ }
+{
+    if !ray.admitted() {
+        return Answer::Refused { number: 7, at: 0 };
+    }
+    if unfit {
+        return Answer::Refused { number: 8, at: 0 };
+    }
+    run(triangles, index, boxes, links, ray)
+}
+
+// The nearest hit of the ray among the triangles of the leaves that it reaches, from node 0 on through boxes that it passes, at an equal t the
+// one of the lowest number, or a miss, with the box tests and the triangle tests made; or a refusal: 1 triangles not a multiple of 12 long;
+// 2 more than 65,536 of them (at: how many); 7 the ray isn't admitted; 8 links empty, not a multiple of 3, over 131,071 nodes, or boxes not
+// twice as long; then by steps 12 a box test beyond the number of nodes (at: the node), 9 a bad node (the node), 10 an index entry of n or more
+// (its place), 5 a triangle that isn't admitted (its number), 11 more than 64 pending (the node). It writes nothing.
+pub fn walk(triangles: &[f64], index: &[u32], boxes: &[f64], links: &[u32], ray: Ray) -> Answer
+    ensures { λ r. ⌜ told r ≡ walk (lent (now (triangles .entry)) (now (index .entry)) (now (boxes .entry)) (now (links .entry))) ray ⌝ }
+{
+    let numbers = triangles.len();
+    if numbers % 12 != 0 {
+        return Answer::Refused { number: 1, at: 0 };
+    }
+    let n = numbers / 12;
+    if 65536 < n {
+        return Answer::Refused {
+            number: 2,
+            at: n as u64,
+        };
+    }
+    let unfit = misfit(boxes, links);
+    cast(triangles, index, boxes, links, unfit, ray)
+}

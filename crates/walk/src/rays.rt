@@ -1,0 +1,164 @@
+// A sky of rays in one call: each ray's walk, told in lent answer room, one place a ray. The Rust casts its rays one by one; this has no
+// counterpart there.
+use crate::Answer;
+use aabb::Ray;
+use aabb::Vec3;
+ghost use mathlib.Core.Path.{_≡_};
+ghost use mathlib.Core.List.{_++_};
+ghost use Prim.Native.Nat.{_+_, _*_, _≤_, _%_};
+ghost use lib.ListN.{length, drop};
+ghost use Rattle.walk.specs.Lent.{lent, triangleCount, most-triangles};
+ghost use Rattle.walk.specs.Answer.{told as answered};
+ghost use Rattle.walk.specs.Walk.{misfit};
+ghost use Rattle.walk.specs.Sky.{rayAt, placeOf, places, timesOf, toldOf, timePut, toldPut, outcome, sky};
+
+// What the call answers: every ray's place is filled, or the whole call is refused, with document 02's number and `at`.
+pub enum Filled {
+    Places,
+    Refused { number: u32, at: u64 },
+}
+
+// What one place holds: 0 for a miss, 100 for a hit, else the refusal number; the triangle, or a refusal's `at`; t; the box tests and the
+// triangle tests. 0 where none applies.
+pub struct Place {
+    pub outcome: u64,
+    pub which: u64,
+    pub t: f64,
+    pub boxes: u64,
+    pub triangles: u64,
+}
+
+// What the place of a walk's answer holds.
+fn place_of(answer: Answer) -> Place
+    ensures { λ r. ⌜ r ≡ placeOf (answered answer) ⌝ }
+{
+    match answer {
+        Answer::Struck {
+            hit,
+            boxes,
+            triangles,
+        } => Place {
+            outcome: 100,
+            which: hit.triangle as u64,
+            t: hit.t,
+            boxes,
+            triangles,
+        },
+        Answer::Missed { boxes, triangles } => Place {
+            outcome: 0,
+            which: 0,
+            t: 0.0,
+            boxes,
+            triangles,
+        },
+        Answer::Refused { number, at } => Place {
+            outcome: number as u64,
+            which: at,
+            t: 0.0,
+            boxes: 0,
+            triangles: 0,
+        },
+    }
+}
+
+// Ray k of the slice.
+fn ray_at(rays: &[f64], k: usize) -> Ray
+    requires { ⌜ k * 6 ≤ length (now rays) ⌝ }
+    ensures { λ r. ⌜ r ≡ rayAt (now (rays .entry)) k ⌝ }
+{
+    let at = k * 6;
+    let origin = Vec3::read(rays, at);
+    let direction = Vec3::read(rays, at + 3);
+    Ray { origin, direction }
+}
+
+fn put(times: &mut [f64], told: &mut [u64], k: usize, place: Place)
+    requires { ⌜ (k + 1 ≤ length (now times)) × (k * 4 + 4 ≤ length (now told)) ⌝ }
+    ensures { λ _. ⌜ now (times .exit) ≡ timePut (now (times .entry)) k place ⌝ }
+    ensures { λ _. ⌜ now (told .exit) ≡ toldPut (now (told .entry)) k place ⌝ }
+{
+    let at = k * 4;
+    times[k] = place.t;
+    told[at] = place.outcome;
+    told[at + 1] = place.which;
+    told[at + 2] = place.boxes;
+    told[at + 3] = place.triangles;
+}
+
+// The places of n rays, in room that suffices.
+fn fill(
+    triangles: &[f64],
+    index: &[u32],
+    boxes: &[f64],
+    links: &[u32],
+    unfit: bool,
+    rays: &[f64],
+    n: usize,
+    times: &mut [f64],
+    told: &mut [u64],
+)
+    requires { ⌜ (length (now triangles) % 12 ≡ 0) × (triangleCount (now triangles) ≤ most-triangles) × (unfit ≡ misfit (now boxes) (now links)) ⌝ }
+    requires { ⌜ (n * 6 ≤ length (now rays)) × (n ≤ length (now times)) × (n * 4 ≤ length (now told)) ⌝ }
+    ensures { λ _. ⌜ now (times .exit) ≡ timesOf (places (lent (now (triangles .entry)) (now (index .entry)) (now (boxes .entry)) (now (links .entry))) (now (rays .entry)) n) ++ drop n (now (times .entry)) ⌝ }
+    ensures { λ _. ⌜ now (told .exit) ≡ toldOf (places (lent (now (triangles .entry)) (now (index .entry)) (now (boxes .entry)) (now (links .entry))) (now (rays .entry)) n) ++ drop (n * 4) (now (told .entry)) ⌝ }
+{
+    let mut k: usize = 0;
+    while k < n {
+        let ray = ray_at(rays, k);
+        let answer = crate::cast(triangles, index, boxes, links, unfit, ray);
+        put(times, told, k, place_of(answer));
+        k += 1;
+    }
+}
+
+// The walk of every ray, six numbers each: origin, direction. Place k is what `walk` answers for ray k: times[k] is t of a hit, else 0, and
+// told[4k..4k+4] are the outcome (0 a miss, 100 a hit, else the refusal number), the triangle or the refusal's `at`, the box tests and the
+// triangle tests, 0 where none applies. A refused ray does not stop the rest; room beyond the rays stays. The whole call is refused, in this
+// order, and then writes nothing: 1 triangles not a multiple of 12 long; 2 more than 65,536 of them; 14 rays not a multiple of six long;
+// 13 times shorter than one a ray or told shorter than four.
+pub fn sky(
+    triangles: &[f64],
+    index: &[u32],
+    boxes: &[f64],
+    links: &[u32],
+    rays: &[f64],
+    times: &mut [f64],
+    told: &mut [u64],
+) -> Filled
+    ensures { λ r. ⌜ outcome r (now (times .exit)) (now (told .exit)) ≡ sky (lent (now (triangles .entry)) (now (index .entry)) (now (boxes .entry)) (now (links .entry))) (now (rays .entry)) (now (times .entry)) (now (told .entry)) ⌝ }
+{
+    let numbers = triangles.len();
+    if numbers % 12 != 0 {
+        return Filled::Refused { number: 1, at: 0 };
+    }
+    let n = numbers / 12;
+    if 65536 < n {
+        return Filled::Refused {
+            number: 2,
+            at: n as u64,
+        };
+    }
+    if rays.len() % 6 != 0 {
+        return Filled::Refused { number: 14, at: 0 };
+    }
+    let count = rays.len() / 6;
+    if times.len() < count {
+        return Filled::Refused { number: 13, at: 0 };
+    }
+    if told.len() < count * 4 {
+        return Filled::Refused { number: 13, at: 0 };
+    }
+    let unfit = crate::misfit(boxes, links);
+    fill(
+        triangles,
+        index,
+        boxes,
+        links,
+        unfit,
+        rays,
+        count,
+        times,
+        told,
+    );
+    Filled::Places
+}
