@@ -15,7 +15,7 @@ use Rattle.aabb.specs.Vector.{allAtMost, along, greatest, least}
 use Rattle.aabb.specs.declared.bounds.Aabb.{Aabb}
 use Rattle.triangle.proofs.Holds.{bounds-bounded}
 use Rattle.triangle.specs.Mesh.{admittedTriangle, boundsAt, triangleAt}
-use Rattle.builder.specs.Heap.{occ}
+use Rattle.lent.specs.Permutation.{occ}
 use Rattle.builder.specs.Range.{boxFrom, nodeBox}
 use Rattle.builder.proofs.Perm.{hit-cases, hit-same}
 use lib.Ieee.Fits.{and-l, and-r, and-i}

@@ -15,6 +15,8 @@ pub mod Fills
 pub mod Whole
 pub mod Rest
 pub mod Enclosing
+pub mod InOrder
 pub mod Placing
 pub mod Trees
+pub mod Vertices
 pub mod Successes

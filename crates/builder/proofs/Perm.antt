@@ -10,26 +10,26 @@ use lib.Seq.{getD-set-same, getD-set-other}
 use lib.Dec.{eqb}
 use borrow.Author.Tests.{eq-eqb, eqb-true}
 use Rattle.float.proofs.Cases.{same?}
-use Rattle.builder.specs.Build.{upTo}
+use Rattle.lent.specs.Permutation.{upTo}
 use Rattle.builder.specs.Fallback.{insert, sorted}
-use Rattle.builder.specs.Heap.{Perm, hit, occ}
+use Rattle.lent.specs.Permutation.{Perm, occurs, occ}
 use Rattle.builder.specs.Partition.{swapped}
 use Rattle.builder.proofs.Linear.{Linear}
 
 -- ---- how often a number stands in a list
-pub hit-same : (v : ℕ) → hit v v ≡ 1
-unfolding hit
+pub hit-same : (v : ℕ) → occurs v v ≡ 1
+unfolding occurs
 hit-same v = rw (eq-eqb v v refl)
 
-pub hit-cases : (v x : ℕ) → (v ≡ x) ⊎ (hit v x ≡ 0)
-unfolding hit
+pub hit-cases : (v x : ℕ) → (v ≡ x) ⊎ (occurs v x ≡ 0)
+unfolding occurs
 hit-cases v x = go (eqb v x) refl
   where
     go : (t : Bool) → eqb v x ≡ t → (v ≡ x) ⊎ (_≡_ {A = ℕ} (cond t 1 0) 0)
     go true p = inl (eqb-true v x p)
     go false p = inr refl
 
-occ-set : (v : ℕ) (xs : List ℕ) (i a : ℕ) → i < length xs → occ v (set xs i a) + hit v (getD xs i 0) ≡ occ v xs + hit v a
+occ-set : (v : ℕ) (xs : List ℕ) (i a : ℕ) → i < length xs → occ v (set xs i a) + occurs v (getD xs i 0) ≡ occ v xs + occurs v a
 occ-set v [] i a h = absurd (omega arith)
 occ-set v (x ∷ xs) zero a h = omega arith
 occ-set v (x ∷ xs) (suc i) a h = omega (arith, occ-set v xs i a (omega arith))
@@ -45,7 +45,7 @@ pub perm-swap : (xs : List ℕ) (a b : ℕ) → a < length xs → b < length xs 
 perm-swap xs a b ha hb v =
     let p = occ-set v xs a (getD xs b 0) ha in
     let q = occ-set v (set xs a (getD xs b 0)) b (getD xs a 0) (omega (arith, length-set xs a (getD xs b 0))) in
-    let r = ap (λ (z : ℕ). hit v z) (after-set xs a b ha) in
+    let r = ap (λ (z : ℕ). occurs v z) (after-set xs a b ha) in
     omega arith
 
 pub occ-append : (v : ℕ) (xs ys : List ℕ) → occ v (xs ++ ys) ≡ occ v xs + occ v ys
@@ -97,10 +97,10 @@ module _ (less : ℕ → ℕ → Bool) (lin : Linear less) where
     up-of xs (λ i j l h. f (suc i) (suc j) (omega arith) (omega arith)),
   )
 
-  low-head : (x : ℕ) (xs : List ℕ) → ((v : ℕ) → 0 < occ v xs → less v x ≡ false) → (v : ℕ) → 0 < hit v x + occ v xs → less v x ≡ false
+  low-head : (x : ℕ) (xs : List ℕ) → ((v : ℕ) → 0 < occ v xs → less v x ≡ false) → (v : ℕ) → 0 < occurs v x + occ v xs → less v x ≡ false
   low-head x xs f v h = go (hit-cases v x)
     where
-      go : (v ≡ x) ⊎ (hit v x ≡ 0) → less v x ≡ false
+      go : (v ≡ x) ⊎ (occurs v x ≡ 0) → less v x ≡ false
       go (inl p) = ap (λ (z : ℕ). less z x) p ∙ not-self x
       go (inr n) = f v (omega arith)
 
@@ -111,7 +111,7 @@ module _ (less : ℕ → ℕ → Bool) (lin : Linear less) where
   one-order (x ∷ xs) [] p q e = absurd (omega (arith, e x, hit-same x))
   one-order (x ∷ xs) (y ∷ ys) p q e =
       let s : x ≡ y = lin .same x y (low-head y ys (q .0) x (omega (arith, e x, hit-same x))) (low-head x xs (p .0) y (omega (arith, e y, hit-same y))) in
-      ap (λ (z : ℕ). z ∷ xs) s ∙ ap (λ (z : List ℕ). y ∷ z) (one-order xs ys (p .1) (q .1) (λ v. omega (arith, e v, ap (λ (z : ℕ). hit v z) s)))
+      ap (λ (z : ℕ). z ∷ xs) s ∙ ap (λ (z : List ℕ). y ∷ z) (one-order xs ys (p .1) (q .1) (λ v. omega (arith, e v, ap (λ (z : ℕ). occurs v z) s)))
 
   -- ---- the sort by insertion
   insert-true : (x y : ℕ) (ys : List ℕ) → less y x ≡ true → insert less x (y ∷ ys) ≡ y ∷ insert less x ys
@@ -129,10 +129,10 @@ module _ (less : ℕ → ℕ → Bool) (lin : Linear less) where
       go true p = subst⁻¹ P (insert-true x y ys p) (f p)
       go false p = subst⁻¹ P (insert-false x y ys p) (g p)
 
-  insert-occ : (v x : ℕ) (ys : List ℕ) → occ v (insert less x ys) ≡ hit v x + occ v ys
+  insert-occ : (v x : ℕ) (ys : List ℕ) → occ v (insert less x ys) ≡ occurs v x + occ v ys
   unfolding insert
   insert-occ v x [] = refl
-  insert-occ v x (y ∷ ys) = insert-by (λ (l : List ℕ). occ v l ≡ hit v x + (hit v y + occ v ys)) x y ys (λ p. omega (arith, insert-occ v x ys)) (λ p. refl)
+  insert-occ v x (y ∷ ys) = insert-by (λ (l : List ℕ). occ v l ≡ occurs v x + (occurs v y + occ v ys)) x y ys (λ p. omega (arith, insert-occ v x ys)) (λ p. refl)
 
   insert-up : (x : ℕ) (ys : List ℕ) → Up ys → Up (insert less x ys)
   unfolding insert Up
@@ -142,16 +142,16 @@ module _ (less : ℕ → ℕ → Bool) (lin : Linear less) where
       (λ p. (λ v h. first p v (omega (arith, insert-occ v x ys)), insert-up x ys (u .1)))
       (λ p. (λ v h. second p v h, u))
     where
-      first : less y x ≡ true → (v : ℕ) → 0 < hit v x + occ v ys → less v y ≡ false
+      first : less y x ≡ true → (v : ℕ) → 0 < occurs v x + occ v ys → less v y ≡ false
       first p v h = ⊎-elim (λ e. ap (λ (z : ℕ). less z y) e ∙ lin .turn y x p) (λ n. u .0 v (omega arith)) (hit-cases v x)
 
-      second : less y x ≡ false → (v : ℕ) → 0 < hit v y + occ v ys → less v x ≡ false
+      second : less y x ≡ false → (v : ℕ) → 0 < occurs v y + occ v ys → less v x ≡ false
       second p v h = ⊎-elim (λ e. ap (λ (z : ℕ). less z x) e ∙ p) (λ n. lin .chain v y x (u .0 v (omega arith)) p) (hit-cases v y)
 
   pub sorted-occ : (xs : List ℕ) → Perm (sorted less xs) xs
   unfolding sorted
   sorted-occ [] v = refl
-  sorted-occ (x ∷ xs) v = insert-occ v x (sorted less xs) ∙ ap (λ (n : ℕ). hit v x + n) (sorted-occ xs v)
+  sorted-occ (x ∷ xs) v = insert-occ v x (sorted less xs) ∙ ap (λ (n : ℕ). occurs v x + n) (sorted-occ xs v)
 
   sorted-up : (xs : List ℕ) → Up (sorted less xs)
   unfolding sorted Up

@@ -8,4 +8,4 @@ pub mod Tree
 pub mod Layout
 pub mod Build
 pub mod Heap
-pub mod Lists
+pub mod Runs
