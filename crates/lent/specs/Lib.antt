@@ -1,0 +1,4 @@
+pub mod Limits
+pub mod Ladder
+pub mod Flat
+pub mod Permutation
