@@ -29,7 +29,7 @@ use Rattle.tree.specs.Tree.{below, internal, leaf}
 use Rattle.builder.specs.Tree.{Grown, decision, grow, grownAs, joined, leafOf}
 use Rattle.builder.proofs.Linear.{linear-ahead}
 use Rattle.builder.proofs.Parting.{parted-at, parted-length}
-use Rattle.builder.proofs.Perm.{sorted-length}
+use Rattle.builder.proofs.Sorting.{sorted-length}
 use Rattle.builder.proofs.Choosing.{splits-four as not-few}
 
 -- ---- the fallback order

@@ -14,7 +14,8 @@ use Rattle.builder.specs.Heap.{Greater, HeapFrom, parent}
 use Rattle.builder.specs.Partition.{swapped}
 use Rattle.builder.proofs.Linear.{Linear}
 use Rattle.builder.proofs.Parting.{length-swap}
-use Rattle.builder.proofs.Perm.{each-perm, not-self, occ-append, perm-swap}
+use Rattle.lent.proofs.Permutation.{each-perm, occ-append, perm-swap}
+use Rattle.builder.proofs.Sorting.{not-self}
 
 -- ---- an exchange, place by place
 module _ (xs : List ℕ) (a b : ℕ) (ha : a < length xs) (hb : b < length xs) (ne : a ≡ b → ⊥) where

@@ -8,7 +8,7 @@ pub mod Choosing
 pub mod Sweeping
 pub mod Parting
 pub mod Linear
-pub mod Perm
+pub mod Sorting
 pub mod Heaps
 pub mod Growing
 pub mod Fills

@@ -34,7 +34,7 @@ use Rattle.tree.proofs.Fitted.{fitted}
 use Rattle.builder.specs.Tree.{Grown, grow}
 use Rattle.builder.proofs.Enclosing.{Admitted}
 use Rattle.builder.proofs.Fills.{room-is}
-use Rattle.builder.proofs.Perm.{occ-at, up-below}
+use Rattle.lent.proofs.Permutation.{occ-at, up-below, up-length}
 use Rattle.builder.proofs.Placing.{Placed, boxes-length, held, links-length, child-of-one, root-of-none, placed, placed-same, same-numbers}
 use Rattle.builder.proofs.Rest.{boxes-rest, links-rest}
 use Rattle.builder.proofs.Trees.{Fine, Of-some, grown-fine}
@@ -126,15 +126,10 @@ module _ (mesh : List Float) (index : List ℕ) (boxes : List Float) (links : Li
       let q = fine-rest (firstRefused mesh 0 (length mesh / 12)) (p .rest) in
       done p (grow mesh deepest 0 (upTo (length mesh / 12))) refl (q .0) (q .1)
 
--- ---- 0, 1, .., n - 1
+-- ---- no numbers
 up-none : upTo 0 ≡ []
 unfolding upTo
 up-none = refl
-
-up-length : (n : ℕ) → length (upTo n) ≡ n
-unfolding upTo
-up-length zero = refl
-up-length (suc n) = let e = up-length n in omega (arith, length-append (upTo n) (n ∷ []))
 
 -- ---- every triangle is admitted
 refused-go : (m : List Float) (i k : ℕ) (t : Bool) → admittedTriangle (triangleAt m i) ≡ t → firstRefused m i (suc k) ≡ Nothing → (T t) × (firstRefused m (suc i) k ≡ Nothing)

@@ -27,7 +27,8 @@ use Rattle.builder.proofs.Enclosing.{Admitted, node-bounded, node-insid
 use Rattle.builder.proofs.Growing.{decides-four, grow-deep, grow-fork, grow-leaf, settled-by, split-between, split-length}
 use Rattle.builder.proofs.Linear.{linear-ahead}
 use Rattle.builder.proofs.Parting.{length-swap, moves-by}
-use Rattle.builder.proofs.Perm.{occ-append, perm-swap, sorted-occ}
+use Rattle.lent.proofs.Permutation.{occ-append, perm-swap}
+use Rattle.builder.proofs.Sorting.{sorted-occ}
 
 -- ---- a partition and the fallback keep the numbers
 moves-same : (keep : ℕ → Bool) (k l : ℕ) (xs : List ℕ) → l + k ≤ length xs → Perm (moves keep k l xs .ids) xs

@@ -22,7 +22,7 @@ use Rattle.tree.specs.Holds.{HoldsVertices, Snug}
 use Rattle.builder.specs.Range.{boxFrom, nodeBox}
 use Rattle.builder.specs.Tree.{Grown, grownAs, grow}
 use Rattle.builder.proofs.Enclosing.{Admitted, node-inside}
-use Rattle.builder.proofs.Perm.{hit-cases, occ-at, occ-append}
+use Rattle.lent.proofs.Permutation.{occurs-cases, occ-at, occ-append}
 use Rattle.builder.proofs.Trees.{Cut, Of-some, grow-has}
 
 -- ---- the box of a range holds the vertices of each of its triangles
@@ -41,7 +41,7 @@ module _ (m : List Float) where
   lone v A = union-empty (boundsOf (triangleAt m v)) (bounds-bounded (triangleAt m v) A)
 
   only : (v w : ℕ) (ids : List ℕ) → 0 < occ v ids → 0 < occ w (v ∷ []) → 0 < occ w ids
-  only v w ids h o = subst (λ (z : ℕ). 0 < occ z ids) (⊎-elim (λ e. sym e) (λ z. absurd (omega arith)) (hit-cases w v)) h
+  only v w ids h o = subst (λ (z : ℕ). 0 < occ z ids) (⊎-elim (λ e. sym e) (λ z. absurd (omega arith)) (occurs-cases w v)) h
 
   node-each : (ids : List ℕ) (v : ℕ) → Admitted m ids → 0 < occ v ids → T (contains (nodeBox m ids) (boundsOf (triangleAt m v)))
   node-each ids v A h =

@@ -13,7 +13,7 @@ use Rattle.builder.specs.Layout.{Divided}
 use Rattle.lent.specs.Limits.{deepest}
 use Rattle.builder.specs.Tree.{grow}
 use Rattle.builder.proofs.Heaps.{lent}
-use Rattle.builder.proofs.Perm.{up-below}
+use Rattle.lent.proofs.Permutation.{up-below}
 use Rattle.builder.proofs.Whole.{c-length, front-length-is, lent-again, made-deep, made-done, rest-again, twice-length}
 use borrow.Author.Needs.{needs}
 use Rattle.builder.proofs.make.Statement.{statement}
