@@ -20,3 +20,4 @@ pub mod Placing
 pub mod Trees
 pub mod Vertices
 pub mod Successes
+pub mod Depth

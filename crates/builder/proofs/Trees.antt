@@ -72,7 +72,7 @@ pub record Cut (ids xs : List ℕ) (k : ℕ) : Type 0 where
   pub len : length xs ≡ length ids
   pub same : Perm xs ids
 
-cut-of : (m : List Float) (ids : List ℕ) (a : ℕ) (p : Float) → decision m ids ≡ Split a p → Cut ids (separated m a p ids .ids) (separated m a p ids .at)
+pub cut-of : (m : List Float) (ids : List ℕ) (a : ℕ) (p : Float) → decision m ids ≡ Split a p → Cut ids (separated m a p ids .ids) (separated m a p ids .at)
 cut-of m ids a p e =
     let four : 4 < length ids = decides-four m ids a p e in
     let mid = split-between m a p ids (omega arith) in
