@@ -1,4 +1,5 @@
 pub mod Tests
 pub mod Axis
 pub mod Inside
+pub mod Running
 pub mod Holds

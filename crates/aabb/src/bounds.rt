@@ -2,7 +2,7 @@
 use crate::vector;
 use crate::vector::Vec3;
 ghost use mathlib.Core.Path.{_≡_};
-ghost use Rattle.aabb.specs.Bounds.{emptyBox, ofThree, grown, union, center, extent, area, bounded, isEmpty, usable, boxAt};
+ghost use Rattle.aabb.specs.Bounds.{emptyBox, ofThree, grown, union, widened, joined, center, extent, area, bounded, isEmpty, usable, boxAt};
 
 pub struct Aabb {
     pub min: Vec3,
@@ -56,6 +56,25 @@ impl Aabb {
     {
         let min = self.min.least(other.min);
         let max = self.max.greatest(other.max);
+        Aabb { min, max }
+    }
+
+    // The box, widened to hold the point, by one comparison a number: as `grow` for every box that has grown from the empty one, which has no NaN; a NaN of
+    // `self` is kept.
+    pub fn widened(self, point: Vec3) -> Aabb
+        ensures { λ r. ⌜ r ≡ widened self point ⌝ }
+    {
+        let min = self.min.lowest(point);
+        let max = self.max.highest(point);
+        Aabb { min, max }
+    }
+
+    // The box, joined with another, likewise: as `union`.
+    pub fn joined(self, other: Aabb) -> Aabb
+        ensures { λ r. ⌜ r ≡ joined self other ⌝ }
+    {
+        let min = self.min.lowest(other.min);
+        let max = self.max.highest(other.max);
         Aabb { min, max }
     }
 
@@ -124,13 +143,35 @@ impl Aabb {
         self.is_empty()
     }
 
-    // Box i of a lent slice, six numbers each: min x, y, z, max x, y, z; a NaN for each place beyond its end.
+    // Box i of a lent slice, six numbers each: min x, y, z, max x, y, z; a NaN for each place beyond its end. One test does for a box that is all there.
     pub fn read(numbers: &[f64], i: usize) -> Aabb
         ensures { λ r. ⌜ r ≡ boxAt (now (numbers .entry)) i ⌝ }
     {
-        let at = vector::place(numbers, i, 6);
-        let min = Vec3::read(numbers, at);
-        let max = Vec3::read(numbers, at + 3);
-        Aabb { min, max }
+        if i < numbers.len() / 6 {
+            let at = i * 6;
+            let min = Vec3 {
+                x: numbers[at],
+                y: numbers[at + 1],
+                z: numbers[at + 2],
+            };
+            let top = at + 3;
+            let max = Vec3 {
+                x: numbers[top],
+                y: numbers[top + 1],
+                z: numbers[top + 2],
+            };
+            return Aabb { min, max };
+        }
+        past_end(numbers, i)
     }
+}
+
+// Box i where not all of its numbers need be there.
+fn past_end(numbers: &[f64], i: usize) -> Aabb
+    ensures { λ r. ⌜ r ≡ boxAt (now (numbers .entry)) i ⌝ }
+{
+    let at = vector::place(numbers, i, 6);
+    let min = Vec3::read(numbers, at);
+    let max = Vec3::read(numbers, at + 3);
+    Aabb { min, max }
 }

@@ -1,19 +1,18 @@
 // The sixteen bins of each axis, each with a count and a box: how they are filled, three axes in one pass.
+use crate::nodes;
 use crate::range;
-use crate::running;
 use aabb::Aabb;
 use aabb::Vec3;
 ghost use mathlib.Core.Path.{_≡_};
 ghost use Prim.Native.Nat.{ℕ, _+_, _*_, _/_, _≤_, _<_};
 ghost use lib.ListN.{length, getD, set, replicate};
-ghost use Rattle.float.specs.Number.{infinity};
 ghost use Rattle.aabb.specs.Vector.{along};
-ghost use Rattle.aabb.specs.Bounds.{union, boxAt};
+ghost use Rattle.aabb.specs.Bounds.{Clear, union, boxAt};
 ghost use Rattle.lent.specs.Limits.{most-triangles};
 ghost use Rattle.lent.specs.Permutation.{occ};
 ghost use Rattle.builder.specs.Layout.{boxPut};
 ghost use Rattle.builder.specs.Bins.{whole, noBin, joinBins, binOf, filled};
-ghost use Rattle.builder.specs.Lanes.{Clear, AllClear, binAt, lane, Lanes, Vacant};
+ghost use Rattle.builder.specs.Lanes.{binAt, lane, Lanes, Vacant};
 
 pub struct Bin {
     pub count: u32,
@@ -24,7 +23,7 @@ impl Bin {
     pub fn none() -> Bin
         ensures { λ r. ⌜ (r ≡ noBin) × Clear (r .bounds) ⌝ }
     {
-        let bounds = running::nothing();
+        let bounds = Aabb::empty();
         Bin { count: 0, bounds }
     }
 
@@ -32,7 +31,7 @@ impl Bin {
         requires { ⌜ (self .count + other .count ≤ 16777216) × Clear (self .bounds) ⌝ }
         ensures { λ r. ⌜ (r ≡ joinBins self other) × Clear (r .bounds) ⌝ }
     {
-        let bounds = running::joined(self.bounds, other.bounds);
+        let bounds = self.bounds.joined(other.bounds);
         Bin {
             count: self.count + other.count,
             bounds,
@@ -42,12 +41,12 @@ impl Bin {
 
 // The first of some bins in a row: its number, as a whole number and as a float.
 pub struct Row {
-    pub first: u8,
+    pub first: usize,
     pub low: f64,
 }
 
 // Of twice `half` bins in a row that have the bin of x, the half that has it. `width` is `half` as a float.
-fn upper(row: Row, half: u8, width: f64, x: f64) -> Row
+fn upper(row: Row, half: usize, width: f64, x: f64) -> Row
     requires { ⌜ (row .low ≡ whole (row .first)) × (width ≡ whole half) × (0 < half) × (row .first + half ≤ 15) × (row .first ≤ binOf 15 x) × (binOf 15 x < row .first + half + half) ⌝ }
     ensures { λ r. ⌜ (r .low ≡ whole (r .first)) × (r .first ≤ row .first + half) × (r .first ≤ binOf 15 x) × (binOf 15 x < r .first + half) ⌝ }
 {
@@ -61,57 +60,38 @@ fn upper(row: Row, half: u8, width: f64, x: f64) -> Row
     row
 }
 
-// The greatest whole k in 0..15 with k <= x, by four halvings: the cast to `usize` of the Rust, and its `min`. Three of them are worked out in floats alone; the
-// cast of a whole number loses nothing.
-pub fn bin_of(x: f64) -> u32
+// The greatest whole k in 0..15 with k <= x, by four halvings: what the cast to `usize` of the Rust and its `min` come to, worked out.
+pub fn bin_of(x: f64) -> usize
     ensures { λ r. ⌜ (r ≡ binOf 15 x) × (r ≤ 15) ⌝ }
 {
     let sixteen = Row { first: 0, low: 0.0 };
     let eight = upper(sixteen, 8, 8.0, x);
     let four = upper(eight, 4, 4.0, x);
     let two = upper(four, 2, 2.0, x);
-    let k = two.low as u32;
-    if two.low + 1.0 <= x {
-        return k + 1;
-    }
-    k
+    let one = upper(two, 1, 1.0, x);
+    one.first
 }
 
 // Bin k of the lent bins, six numbers of box each and a count.
 pub fn bin_at(boxes: &[f64], counts: &[u32], k: usize) -> Bin
-    requires { ⌜ (k * 6 + 6 ≤ length (now boxes)) × (k < length (now counts)) ⌝ }
+    requires { ⌜ k < length (now counts) ⌝ }
     ensures { λ r. ⌜ r ≡ binAt (now (boxes .entry)) (now (counts .entry)) k ⌝ }
 {
-    let at = k * 6;
-    let min = Vec3 {
-        x: boxes[at],
-        y: boxes[at + 1],
-        z: boxes[at + 2],
-    };
-    let top = at + 3;
-    let max = Vec3 {
-        x: boxes[top],
-        y: boxes[top + 1],
-        z: boxes[top + 2],
-    };
-    let bounds = Aabb { min, max };
+    let bounds = Aabb::read(boxes, k);
     Bin {
         count: counts[k],
         bounds,
     }
 }
 
-// Boxes that hold +inf everywhere become the empty box, each.
+// Each of the 48 boxes becomes the empty box.
 pub fn vacate(boxes: &mut [f64])
-    requires { ⌜ now boxes ≡ replicate 288 infinity ⌝ }
+    requires { ⌜ length (now boxes) ≡ 288 ⌝ }
     ensures { λ _. ⌜ Vacant (now (boxes .exit)) (replicate 48 0) ⌝ }
 {
-    let far = -float::infinity();
     let mut k: usize = 0;
     while k < 48 {
-        boxes[k * 6 + 3] = far;
-        boxes[k * 6 + 4] = far;
-        boxes[k * 6 + 5] = far;
+        nodes::put_box(boxes, k, Aabb::empty());
         k += 1;
     }
 }
@@ -121,15 +101,9 @@ pub fn put(boxes: &mut [f64], counts: &mut [u32], k: usize, b: Aabb)
     requires { ⌜ (k < 48) × Lanes most-triangles (now boxes) (now counts) ⌝ }
     ensures { λ _. ⌜ now (boxes .exit) ≡ boxPut (now (boxes .entry)) k (union (boxAt (now (boxes .entry)) k) b) ⌝ }
     ensures { λ _. ⌜ now (counts .exit) ≡ set (now (counts .entry)) k (getD (now (counts .entry)) k 0 + 1) ⌝ }
-    ensures { λ _. ⌜ AllClear (now (boxes .exit)) ⌝ }
 {
-    let at = k * 6;
-    boxes[at] = float::lower(boxes[at], b.min.x);
-    boxes[at + 1] = float::lower(boxes[at + 1], b.min.y);
-    boxes[at + 2] = float::lower(boxes[at + 2], b.min.z);
-    boxes[at + 3] = float::higher(boxes[at + 3], b.max.x);
-    boxes[at + 4] = float::higher(boxes[at + 4], b.max.y);
-    boxes[at + 5] = float::higher(boxes[at + 5], b.max.z);
+    let run = Aabb::read(boxes, k);
+    nodes::put_box(boxes, k, run.joined(b));
     counts[k] += 1;
 }
 
@@ -152,9 +126,9 @@ pub fn fill(
         let t = range::corners(triangles, index[i]);
         let c = t.centroid();
         let b = range::box_of(t);
-        let x = bin_of((c.x - min.x) * scale.x) as usize;
-        let y = bin_of((c.y - min.y) * scale.y) as usize;
-        let z = bin_of((c.z - min.z) * scale.z) as usize;
+        let x = bin_of((c.x - min.x) * scale.x);
+        let y = bin_of((c.y - min.y) * scale.y);
+        let z = bin_of((c.z - min.z) * scale.z);
         put(boxes, counts, x, b);
         put(boxes, counts, 16 + y, b);
         put(boxes, counts, 32 + z, b);

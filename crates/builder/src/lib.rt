@@ -1,6 +1,5 @@
 // The builder: a port of builder.rs. Triangles are put into a binary tree of boxes, node for node as the Rust does it.
 // Each `Vec` of the Rust is a buffer that the caller lends; `find_best_split` is an inner part (split.rt) and not public.
-mod running; // running.rt: boxes that grow from the empty one
 mod range; // range.rt: what is asked of a range of triangle numbers
 mod bins; // bins.rt: the sixteen bins of each axis
 mod split; // split.rt: the choice of a split

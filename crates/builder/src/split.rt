@@ -170,8 +170,7 @@ pub fn find_best_split(triangles: &[f64], index: &[u32], hull: Hull) -> SplitDec
         y: scale(span.y),
         z: scale(span.z),
     };
-    let far = float::infinity();
-    let mut boxes = [far; 288];
+    let mut boxes = [0.0; 288];
     let mut counts = [0u32; 48];
     bins::vacate(&mut boxes);
     bins::fill(

@@ -46,20 +46,11 @@ box-of-requires c κs = search needs
 bin-of-requires : tie.Need-bin-of-requires Inv-loop μ-loop
 bin-of-requires c κs = search needs
 
-cast-x : tie.Need-cast-x Inv-loop μ-loop
-cast-x c = omega (arith, c .bin-of .ensures .1)
-
 bin-of-requires-2 : tie.Need-bin-of-requires-2 Inv-loop μ-loop
 bin-of-requires-2 c κs = search needs
 
-cast-y : tie.Need-cast-y Inv-loop μ-loop
-cast-y c = omega (arith, c .bin-of2 .ensures .1)
-
 bin-of-requires-3 : tie.Need-bin-of-requires-3 Inv-loop μ-loop
 bin-of-requires-3 c κs = search needs
-
-cast-z : tie.Need-cast-z Inv-loop μ-loop
-cast-z c = omega (arith, c .bin-of3 .ensures .1)
 
 put-requires : tie.Need-put-requires Inv-loop μ-loop
 put-requires c κs =
@@ -78,7 +69,7 @@ put-requires-2 c κs =
     let x = c .before .before .before .before .before .before .before .before .before .before .before .before .before .before .before .before .before .bin-of in
     let p = c .before .before .before .before .before .before .put .ensures in
     let y = c .before .before .before .before .before .before .before .before .before .before .before .before .before .bin-of2 in
-    (omega (arith, y .ensures .1), lanes-up (l .i + 1) most-triangles _ _ (omega (arith, c .before .before .before .before .before .before .before .before .before .before .before .before .before .before .before .before .before .before .before .before .before .before .before .before .before .loop-test .taken, l .inv .3)) (one-more (l .boxes) _ (l .counts) _ (x .result) (l .i) b (x .ensures .1) (l .inv .1) (record { boxes-are = p .0; counts-are = p .1 .0 }) (p .1 .1)))
+    (omega (arith, y .ensures .1), lanes-up (l .i + 1) most-triangles _ _ (omega (arith, c .before .before .before .before .before .before .before .before .before .before .before .before .before .before .before .before .before .before .before .before .before .before .before .before .before .loop-test .taken, l .inv .3)) (one-more (l .boxes) _ (l .counts) _ (x .result) (l .i) b (x .ensures .1) (l .inv .1) (record { boxes-are = p .0; counts-are = p .1 })))
 
 add-put-2 : tie.Need-add-put-2 Inv-loop μ-loop
 add-put-2 c = omega (arith, c .before .before .before .before .before .before .before .before .before .before .before .before .before .before .before .before .bin-of3 .ensures .1)
@@ -92,7 +83,7 @@ put-requires-3 c κs =
     let y = c .before .before .before .before .before .before .before .before .before .before .before .before .before .before .before .before .before .before .before .before .bin-of2 in
     let q = c .before .before .before .before .before .before .put2 .ensures in
     let z = c .before .before .before .before .before .before .before .before .before .before .before .before .before .before .before .before .bin-of3 in
-    (omega (arith, z .ensures .1), lanes-up (l .i + 1) most-triangles _ _ (omega (arith, c .before .before .before .before .before .before .before .before .before .before .before .before .before .before .before .before .before .before .before .before .before .before .before .before .before .before .before .before .before .before .before .before .loop-test .taken, l .inv .3)) (two-more (l .boxes) _ (l .counts) _ (x .result) (l .i) b (x .ensures .1) (l .inv .1) (record { boxes-are = p .0; counts-are = p .1 .0 }) (p .1 .1) _ _ (y .result) (y .ensures .1) (record { boxes-are = q .0; counts-are = q .1 .0 }) (q .1 .1)))
+    (omega (arith, z .ensures .1), lanes-up (l .i + 1) most-triangles _ _ (omega (arith, c .before .before .before .before .before .before .before .before .before .before .before .before .before .before .before .before .before .before .before .before .before .before .before .before .before .before .before .before .before .before .before .before .loop-test .taken, l .inv .3)) (two-more (l .boxes) _ (l .counts) _ (x .result) (l .i) b (x .ensures .1) (l .inv .1) (record { boxes-are = p .0; counts-are = p .1 }) _ _ (y .result) (y .ensures .1) (record { boxes-are = q .0; counts-are = q .1 })))
 
 add-i : tie.Need-add-i Inv-loop μ-loop
 add-i c = omega (arith, c .before .before .before .before .before .before .before .before .before .before .before .before .before .before .before .before .before .before .before .before .before .before .before .before .before .before .before .before .before .before .before .before .before .before .before .before .before .loop-test .taken, c .before .before .before .before .before .before .before .before .before .before .before .before .before .before .before .before .before .before .before .before .before .before .before .before .before .before .before .before .before .before .before .before .before .before .before .before .before .before .loop .inv .3)
@@ -117,8 +108,8 @@ loop-again c =
     let r = c .before .before .before .before .put3 .ensures in
     let i = getD (a .index .now) (l .i) 0 in (
       omega (arith, h),
-      three-more (l .boxes) _ (l .counts) _ (x .result) (l .i) b (x .ensures .1) (l .inv .1) (record { boxes-are = p .0; counts-are = p .1 .0 }) (p .1 .1) _ _ (y .result) (y .ensures .1) (record { boxes-are = q .0; counts-are = q .1 .0 }) (q .1 .1) _ _ (z .result) (z .ensures .1) (record { boxes-are = r .0; counts-are = r .1 .0 }) (r .1 .1),
-      ahead-again (l .boxes) _ (l .counts) _ (x .result) (l .i) b (x .ensures .1) (l .inv .1) (record { boxes-are = p .0; counts-are = p .1 .0 }) (p .1 .1) _ _ (y .result) (y .ensures .1) (record { boxes-are = q .0; counts-are = q .1 .0 }) (q .1 .1) _ _ (z .result) (z .ensures .1) (record { boxes-are = r .0; counts-are = r .1 .0 }) (a .triangles .now) (a .min) (a .scale) (a .index .now) (l .i) (m .result) h
+      three-more (l .boxes) _ (l .counts) _ (x .result) (l .i) b (x .ensures .1) (l .inv .1) (record { boxes-are = p .0; counts-are = p .1 }) _ _ (y .result) (y .ensures .1) (record { boxes-are = q .0; counts-are = q .1 }) _ _ (z .result) (z .ensures .1) (record { boxes-are = r .0; counts-are = r .1 }),
+      ahead-again (l .boxes) _ (l .counts) _ (x .result) (l .i) b (x .ensures .1) (l .inv .1) (record { boxes-are = p .0; counts-are = p .1 }) _ _ (y .result) (y .ensures .1) (record { boxes-are = q .0; counts-are = q .1 }) _ _ (z .result) (z .ensures .1) (record { boxes-are = r .0; counts-are = r .1 }) (a .triangles .now) (a .min) (a .scale) (a .index .now) (l .i) (m .result) h
           (centroid-by (triangleAt (a .triangles .now) i) (t .result .v0) (t .result .v1) (t .result .v2) (m .result) (t .ensures .0) (t .ensures .1) (t .ensures .2) (m .ensures))
           (bounds-by (a .triangles .now) i (t .result .v0) (t .result .v1) (t .result .v2) b (t .ensures .0) (t .ensures .1) (t .ensures .2) (u .ensures))
           (x .ensures .0) (y .ensures .0) (z .ensures .0) (l .inv .2),
@@ -152,11 +143,8 @@ fill-spec =
     centroid-requires
     box-of-requires
     bin-of-requires
-    cast-x
     bin-of-requires-2
-    cast-y
     bin-of-requires-3
-    cast-z
     put-requires
     add-put
     put-requires-2

@@ -6,10 +6,11 @@ use native.Mathlib.Omega.{arith}
 use lib.ListN.{length, drop, length-replicate, length-set}
 use lib.Ieee.{Float}
 use Rattle.float.specs.Number.{nought}
+use Rattle.aabb.specs.Bounds.{Clear}
 use Rattle.builder.specs.declared.bins.Bin.{Bin}
 use Rattle.builder.specs.Bins.{noBin, suffixOf}
 use Rattle.builder.specs.Choice.{sweepFrom}
-use Rattle.builder.specs.Lanes.{Clear, lane, Lanes}
+use Rattle.builder.specs.Lanes.{lane, Lanes}
 use Rattle.lent.specs.Limits.{most-triangles}
 use Rattle.builder.proofs.Choosing.{sweep-end, sweep-next}
 use Rattle.builder.proofs.Sweeping.{Sides, at-number, join-number, lane-bin, lane-length, none-number, sides-most, sides-next, sides-start, suffix-next, suffix-start}
@@ -55,7 +56,7 @@ add-bin-at c = let v = c .before .loop .inv in omega (arith, v .0 .0, v .0 .1, v
 bin-at-requires : tie.Need-bin-at-requires Inv-loop μ-loop Inv-loop2 μ-loop2
 bin-at-requires c κs =
     let v = c .before .loop .inv in
-    (omega (arith, v .0 .0, v .0 .1, v .1, v .0 .2 .boxes-long, c .loop-test .taken), omega (arith, v .0 .0, v .0 .1, v .1, v .0 .2 .counts-long, c .loop-test .taken))
+    omega (arith, v .0 .0, v .0 .1, v .1, v .0 .2 .counts-long, c .loop-test .taken)
 
 joined-requires : tie.Need-joined-requires Inv-loop μ-loop Inv-loop2 μ-loop2
 joined-requires c κs =
@@ -116,7 +117,7 @@ add-bin-at-2 c = let v = c .before .loop2 .inv in omega (arith, v .0 .0, v .0 .1
 bin-at-requires-2 : tie.Need-bin-at-requires-2 Inv-loop μ-loop Inv-loop2 μ-loop2
 bin-at-requires-2 c κs =
     let v = c .before .loop2 .inv in
-    (omega (arith, v .0 .0, v .0 .1, v .0 .2 .boxes-long, c .loop2-test .taken), omega (arith, v .0 .0, v .0 .1, v .0 .2 .counts-long, c .loop2-test .taken))
+    omega (arith, v .0 .0, v .0 .1, v .0 .2 .counts-long, c .loop2-test .taken)
 
 joined-requires-2 : tie.Need-joined-requires-2 Inv-loop μ-loop Inv-loop2 μ-loop2
 joined-requires-2 c κs =
