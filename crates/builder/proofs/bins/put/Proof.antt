@@ -1,7 +1,7 @@
 -- The box that stands there is clear, so `joined` gives the union. Assumes nothing.
 use mathlib.Core.Path.{refl}
 use native.Mathlib.Omega.{arith}
-use Rattle.builder.specs.Tree.{most-triangles}
+use Rattle.lent.specs.Limits.{most-triangles}
 use Rattle.builder.proofs.Lanes.{union-put}
 use borrow.Author.Needs.{needs}
 use Rattle.builder.proofs.bins.put.Statement.{statement}
