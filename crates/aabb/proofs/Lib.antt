@@ -1,4 +1,6 @@
 pub mod Tests
 pub mod Axis
+pub mod Limits
+pub mod Axes
 pub mod Inside
 pub mod Holds
