@@ -109,17 +109,19 @@ impl Aabb {
         2.0 * ((d.x * d.y + d.y * d.z) + d.z * d.x)
     }
 
-    // Whether the six numbers are finite, of magnitude at most 2^40, each min at most its max.
+    // Whether the six numbers are finite, of magnitude at most 2^40, each min at most its max. A NaN fails the first test; after it the lowest
+    // min and the highest max tell for all six.
     pub fn bounded(self) -> bool
         ensures { λ r. ⌜ r ≡ bounded self ⌝ }
     {
-        if self.min.within(1099511627776.0) {
-            if self.max.within(1099511627776.0) {
-                return self.min.at_most(self.max);
-            }
+        if !self.min.at_most(self.max) {
             return false;
         }
-        false
+        let limit = 1099511627776.0;
+        if !(-limit <= float::lower(float::lower(self.min.x, self.min.y), self.min.z)) {
+            return false;
+        }
+        float::higher(float::higher(self.max.x, self.max.y), self.max.z) <= limit
     }
 
     // Whether it is exactly the empty box.

@@ -19,8 +19,8 @@ use Rattle.aabb.proofs.Inside.{usable-inside}
 use Rattle.triangle.specs.Mesh.{triangleAt, admittedTriangle}
 use Rattle.walk.specs.declared.tally.Nearest.{Nearest}
 use Rattle.walk.specs.declared.tally.Tally.{Tally}
-use Rattle.walk.specs.declared.step.Turn.{Turn}
-use Rattle.walk.specs.declared.step.Turn.the-variants.{Down, Open}
+use Rattle.walk.specs.declared.turn.Turn.{Turn}
+use Rattle.walk.specs.declared.turn.Turn.the-variants.{Missed, Down, Open}
 use Rattle.walk.specs.declared.node.Node.{Node}
 use Rattle.walk.specs.Lent.{Lent, most-pending, triangleCount, nodeCount, sound, leftOf, rightOf}
 use Rattle.walk.specs.Walk.{start, boxed, after, tested, scan, openLeaf, opened, judged, visit, onward, run, walk}
@@ -89,25 +89,25 @@ module _ (s : Lent) (r : Ray) (entries : (p : ℕ) → p < length (s .index) →
       (scan-all c (suc p) (tested (s .triangles) r k a) (omega arith) ∙ ap Down (tally _ _ _ _ _ _ refl (omega arith) refl))
 
   leaf-visit : (i besides : ℕ) (x : Node) (a : Tally) (b : Aabb) (p c : ℕ) → IsLeaf s x b p c → T (usable b)
-      → judged s r i x besides a ≡ Down (more s r 1 (cond (passes r b) (places c p) []) a)
-  unfolding judged sound opened openLeaf boxed
+      → judged s r i x besides a ≡ cond (passes r b) (Down (more s r 0 (places c p) a)) Missed
+  unfolding judged sound opened openLeaf
   leaf-visit i besides x a b p c H B =
       rw (H .bounds, H .first, H .count, H .kind, is-true (usable b) B, le-ltb (length (s .index)) (p + c) (H .inside))
       (go (passes r b))
     where
-      go : (q : Bool) → cond q (scan (s .triangles) (s .index) r c p (boxed a)) (Down (boxed a)) ≡ Down (more s r 1 (cond q (places c p) []) a)
-      go true = scan-all c p (boxed a) (H .inside) ∙ ap Down (tally _ _ _ _ _ _ (omega arith) refl refl)
-      go false = ap Down (tally _ _ _ _ _ _ refl (omega arith) refl)
+      go : (q : Bool) → cond q (scan (s .triangles) (s .index) r c p a) Missed ≡ cond q (Down (more s r 0 (places c p) a)) Missed
+      go true = scan-all c p a (H .inside)
+      go false = refl
 
   sound-internal : (x : Node) (b : Aabb) → IsInternal s x b → T (usable b) → sound x ≡ true
   unfolding sound
   sound-internal x b H B = rw (H .bounds, is-true (usable b) B, H .kind, H .count)
 
   internal-visit : (i besides : ℕ) (x : Node) (a : Tally) (b : Aabb) → IsInternal s x b → T (usable b) → besides + 2 ≤ most-pending
-      → judged s r i x besides a ≡ cond (passes r b) (Open (leftOf x) (rightOf x) (boxed a)) (Down (boxed a))
+      → judged s r i x besides a ≡ cond (passes r b) (Open (leftOf x) (rightOf x)) Missed
   unfolding judged opened
   internal-visit i besides x a b H B k =
-      rw (sound-internal x b H B, ap (passes r) (H .bounds), ne-eqb (x .kind) 1 (λ e. omega (arith, H .kind)), ← both-put (nodeCount (s .links)) i x besides (boxed a) (leftOf x) (rightOf x) refl refl (H .left-there) (H .right-there) k)
+      rw (sound-internal x b H B, ap (passes r) (H .bounds), ne-eqb (x .kind) 1 (λ e. omega (arith, H .kind)), ← both-put (nodeCount (s .links)) i x besides (leftOf x) (rightOf x) refl refl (H .right-there) k)
 
   -- ---- a tree whose root is taken from the pending nodes, with the rest pending below it
   module _ (R : T (admittedRay r)) where
@@ -116,19 +116,24 @@ module _ (s : Lent) (r : Ray) (entries : (p : ℕ) → p < length (s .index) →
         → run s r left (i ∷ rest) a ≡ run s r later rest (more s r (1 + 2 * entered r t) (reached r t) a)
 
     leaf-walks : (b : Aabb) (p c : ℕ) → Walks (leaf b p c)
-    unfolding visit
+    unfolding visit boxed
     leaf-walks b p c i rest left later a H N d e =
         one-left s r left later i rest a (omega arith)
-        ∙ ap (λ (t : Turn). onward t rest (run s r later)) (leaf-visit i (length rest) (nodeOf s i) a b p c H N)
+        ∙ ap (λ (t : Turn). onward t rest (boxed a) (run s r later)) (leaf-visit i (length rest) (nodeOf s i) (boxed a) b p c H N)
+        ∙ go (passes r b)
+      where
+        go : (q : Bool) → onward (cond q (Down (more s r 0 (places c p) (boxed a))) Missed) rest (boxed a) (run s r later) ≡ run s r later rest (more s r 1 (cond q (places c p) []) a)
+        go true = ap (run s r later rest) (tally _ _ _ _ _ _ (omega arith) refl refl)
+        go false = ap (run s r later rest) (tally _ _ _ _ _ _ refl (omega arith) refl)
 
     module _ (b : Aabb) (u v : Tree) (i : ℕ) (rest : List ℕ) (left later : ℕ) (a : Tally) (H : Holds s i (internal b u v)) (N : Nested (internal b u v)) (d : length rest + depth (internal b u v) ≤ 63)
         (e : left ≡ 1 + 2 * entered r (internal b u v) + later) where
       abbrev Walked : Type 0
       Walked = run s r left (i ∷ rest) a ≡ run s r later rest (more s r (1 + 2 * entered r (internal b u v)) (reached r (internal b u v)) a)
 
-      visited : (q : Bool) → passes r b ≡ q → visit s r i (length rest) a ≡ cond q (Open (leftOf (nodeOf s i)) (rightOf (nodeOf s i)) (boxed a)) (Down (boxed a))
+      visited : (q : Bool) → passes r b ≡ q → visit s r i (length rest) (boxed a) ≡ cond q (Open (leftOf (nodeOf s i)) (rightOf (nodeOf s i))) Missed
       unfolding visit
-      visited q t = rw (← t) (internal-visit i (length rest) (nodeOf s i) a b (H .0) (N .0) (omega arith))
+      visited q t = rw (← t) (internal-visit i (length rest) (nodeOf s i) (boxed a) b (H .0) (N .0) (omega arith))
 
       internal-in : passes r b ≡ true → Walks u → Walks v → Walked
       unfolding boxed
@@ -139,7 +144,7 @@ module _ (s : Lent) (r : Ray) (entries : (p : ℕ) → p < length (s .index) →
           let f : more s r n (reached r u ++ reached r v) (boxed a) ≡ more s r (1 + 2 * entered r (internal b u v)) (reached r u ++ reached r v) a = rw t (tally _ _ _ _ _ _ (omega arith) refl refl) in
           let later' = 1 + 2 * entered r u + (1 + 2 * entered r v + later) in
           one-left s r left later' i rest a (omega (arith, rw t at e))
-          ∙ ap (λ (x : Turn). onward x rest (run s r later')) (visited true t)
+          ∙ ap (λ (x : Turn). onward x rest (boxed a) (run s r later')) (visited true t)
           ∙ U j (k ∷ rest) _ (1 + 2 * entered r v + later) (boxed a) (H .1) (N .3) (omega arith) refl
           ∙ W k rest _ later _ (H .2) (N .4) (omega arith) refl
           ∙ ap (run s r later rest)
@@ -150,7 +155,7 @@ module _ (s : Lent) (r : Ray) (entries : (p : ℕ) → p < length (s .index) →
       internal-out t =
           let D = dropped r R (internal b u v) N (rw t tt) in
           one-left s r left later i rest a (omega (arith, D .0))
-          ∙ ap (λ (x : Turn). onward x rest (run s r later)) (visited false t)
+          ∙ ap (λ (x : Turn). onward x rest (boxed a) (run s r later)) (visited false t)
           ∙ rw (D .0, D .1) (ap (run s r later rest) (tally _ _ _ _ _ _ refl (omega arith) refl))
 
       internal-case : (q : Bool) → passes r b ≡ q → Walks u → Walks v → Walked

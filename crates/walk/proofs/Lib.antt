@@ -7,7 +7,5 @@ pub mod Entrance
 pub mod Accepting
 pub mod NearestHit
 pub mod SameHit
-pub mod Sighting
-pub mod Straight
 pub mod Room
 pub mod Whole

@@ -18,8 +18,8 @@ use Rattle.triangle.specs.Meeting.{distance, hitAt}
 use Rattle.walk.specs.declared.tally.Nearest.{Nearest}
 use Rattle.walk.specs.declared.tally.Nearest.the-variants.{Unmet, Met}
 use Rattle.walk.specs.declared.tally.Tally.{Tally}
-use Rattle.walk.specs.declared.step.Turn.{Turn}
-use Rattle.walk.specs.declared.step.Turn.the-variants.{Refuse, Down, Open}
+use Rattle.walk.specs.declared.turn.Turn.{Turn}
+use Rattle.walk.specs.declared.turn.Turn.the-variants.{Refuse, Missed, Down, Open}
 use Rattle.walk.specs.declared.node.Node.{Node}
 use Rattle.walk.specs.Lent.{Lent, most-triangles, most-nodes, most-pending, triangleCount, nodeCount, leftOrFirst, nodeAt, sound, leftOf, rightOf}
 use Rattle.walk.specs.Answer.{Told, none, numbered}
@@ -63,21 +63,21 @@ unfoldable pub openLeaf : List Float → List ℕ → Ray → ℕ → Node → T
 openLeaf mesh index r i x a = cond (ltb (length index) (leftOrFirst x + x .count)) (Refuse 9 i) (scan mesh index r (x .count) (leftOrFirst x) a)
 
 -- For an internal node: a child number beyond the nodes (9); 11
-unfoldable pub openInternal : ℕ → ℕ → Node → ℕ → Tally → Turn
-openInternal nodes i x besides a =
+unfoldable pub openInternal : ℕ → ℕ → Node → ℕ → Turn
+openInternal nodes i x besides =
     cond (leb nodes (leftOf x) || leb nodes (rightOf x)) (Refuse 9 i)
-    (cond (ltb most-pending (besides + 2)) (Refuse 11 i) (Open (leftOf x) (rightOf x) a))
+    (cond (ltb most-pending (besides + 2)) (Refuse 11 i) (Open (leftOf x) (rightOf x)))
 
 unfoldable pub opened : Lent → Ray → ℕ → Node → ℕ → Tally → Turn
 opened s r i x besides a =
     cond (eqb (x .kind) 1) (openLeaf (s .triangles) (s .index) r i x a)
-    (openInternal (nodeCount (s .links)) i x besides a)
+    (openInternal (nodeCount (s .links)) i x besides)
 
--- bad kind, unusable box, or internal with count not 0 (9); the box test; counts one box test, and passes or drops it
+-- bad kind, unusable box, or internal with count not 0 (9); the box test: passes or drops it
 unfoldable pub judged : Lent → Ray → ℕ → Node → ℕ → Tally → Turn
-judged s r i x besides a = cond (sound x) (cond (passes r (x .bounds)) (opened s r i x besides (boxed a)) (Down (boxed a))) (Refuse 9 i)
+judged s r i x besides a = cond (sound x) (cond (passes r (x .bounds)) (opened s r i x besides a) Missed) (Refuse 9 i)
 
--- node i, taken from the pending ones, with so many pending besides
+-- node i, taken from the pending ones, with so many pending besides; its box test is counted
 unfoldable pub visit : Lent → Ray → ℕ → ℕ → Tally → Turn
 visit s r i besides a = judged s r i (nodeAt (s .boxes) (s .links) i) besides a
 
@@ -96,17 +96,18 @@ unfoldable pub over : List Float → Ray → Tally → Told
 over mesh r a = record { refusal = none; hit = hitOf mesh r (a .nearest); boxes = a .boxes; triangles = a .triangles }
 
 -- An internal node puts right, then left on the pending list. (The last pending node stands first.)
-abbrev pub onward : Turn → List ℕ → (List ℕ → Tally → Told) → Told
-onward (Refuse k i) rest go = refused k i
-onward (Down a) rest go = go rest a
-onward (Open left right a) rest go = go (left ∷ right ∷ rest) a
+abbrev pub onward : Turn → List ℕ → Tally → (List ℕ → Tally → Told) → Told
+onward (Refuse k i) rest a go = refused k i
+onward Missed rest a go = go rest a
+onward (Down b) rest a go = go rest b
+onward (Open left right) rest a go = go (left ∷ right ∷ rest) a
 
--- Each step takes the last pending node. The number is how many box tests are left: a box test beyond the number of nodes is refused (12).
+-- Each step takes the last pending node and counts one box test. The number is how many are left: a box test beyond the number of nodes is refused (12).
 unfoldable pub run : Lent → Ray → ℕ → List ℕ → Tally → Told
 run s r zero [] a = over (s .triangles) r a
 run s r zero (i ∷ rest) a = refused 12 i
 run s r (suc left) [] a = over (s .triangles) r a
-run s r (suc left) (i ∷ rest) a = onward (visit s r i (length rest) a) rest (run s r left)
+run s r (suc left) (i ∷ rest) a = onward (visit s r i (length rest) (boxed a)) rest (boxed a) (run s r left)
 
 -- links empty, not a multiple of 3, over 131,071 nodes, or boxes not twice as long as links
 unfoldable pub misfit : List Float → List ℕ → Bool

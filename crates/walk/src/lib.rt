@@ -4,21 +4,21 @@
 mod tally; // tally.rt: the counts and the hit so far
 mod pending; // pending.rt: the pending node numbers
 mod node; // node.rt: a node of the lent lists
-mod aim; // aim.rt: the ray, prepared for the box tests
+mod turn; // turn.rt: how a step ends
 mod leaf; // leaf.rt: a leaf's triangles
 mod step; // step.rt: one step
 mod rays; // rays.rt: a sky of rays in one call
 
+use aabb::Aim;
 use aabb::Ray;
-use aim::Aim;
 use pending::Pending;
 pub use rays::Filled;
 pub use rays::sky;
-use step::Turn;
 use tally::Nearest;
 use tally::Tally;
 use triangle::Hit;
 use triangle::Triangle;
+use turn::Turn;
 ghost use mathlib.Core.Path.{_≡_};
 ghost use mathlib.Core.List.{[], _∷_};
 ghost use Prim.Native.Nat.{_<_, _≤_, _%_};
@@ -89,6 +89,7 @@ fn run(triangles: &[f64], index: &[u32], boxes: &[f64], links: &[u32], ray: Ray)
                 at: i as u64,
             };
         }
+        a = a.boxed();
         match step::visit(triangles, index, boxes, links, aim, i, besides, a) {
             Turn::Refuse { number, at } => {
                 return Answer::Refused { number, at };
@@ -100,12 +101,14 @@ fn run(triangles: &[f64], index: &[u32], boxes: &[f64], links: &[u32], ray: Ray)
                     last = pending.nodes[besides - 1];
                 }
             }
-            Turn::Open { left, right, tally } => {
-                a = tally;
-                // Right, then left in the room beyond those that are pending besides.
-                pending.nodes[besides] = right;
-                pending.nodes[besides + 1] = left;
-                pending = pending.opened();
+            Turn::Missed => {
+                pending = pending.dropped();
+                if 0 < besides {
+                    last = pending.nodes[besides - 1];
+                }
+            }
+            Turn::Open { left, right } => {
+                pending = pending.opened(left, right);
                 last = left;
             }
         }

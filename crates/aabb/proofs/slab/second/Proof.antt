@@ -1,7 +1,7 @@
 -- The test is that of the definition. Assumes nothing.
 use Rattle.aabb.specs.Slab.{second}
-use Rattle.walk.proofs.aim.second.Statement.{statement}
-use Rattle.walk.proofs.aim.second.Tie as tie
+use Rattle.aabb.proofs.slab.second.Statement.{statement}
+use Rattle.aabb.proofs.slab.second.Tie as tie
 
 returns : tie.Need-returns
 unfolding second

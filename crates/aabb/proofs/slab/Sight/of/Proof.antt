@@ -1,8 +1,8 @@
 -- By computation. Assumes nothing.
-use Rattle.walk.specs.Aim.{sighted}
+use Rattle.aabb.specs.Slab.{sighted}
 use borrow.Author.Needs.{needs}
-use Rattle.walk.proofs.aim.Sight.of.Statement.{statement}
-use Rattle.walk.proofs.aim.Sight.of.Tie as tie
+use Rattle.aabb.proofs.slab.Sight.of.Statement.{statement}
+use Rattle.aabb.proofs.slab.Sight.of.Tie as tie
 
 magnitude-requires : tie.Need-magnitude-requires
 magnitude-requires c κs = search needs

@@ -1,7 +1,7 @@
 -- The test is that of the definition. Assumes nothing.
 use Rattle.aabb.specs.Slab.{first}
-use Rattle.walk.proofs.aim.first.Statement.{statement}
-use Rattle.walk.proofs.aim.first.Tie as tie
+use Rattle.aabb.proofs.slab.first.Statement.{statement}
+use Rattle.aabb.proofs.slab.first.Tie as tie
 
 returns : tie.Need-returns
 unfolding first
