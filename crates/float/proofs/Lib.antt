@@ -16,4 +16,5 @@ pub mod RootScaled
 pub mod RootRead
 pub mod RootCases
 pub mod RootNearest
+pub mod RootBounds
 pub mod RootRows

@@ -69,11 +69,12 @@ step : (d q P : ℕ) → d * P < q * P → d * P + P ≤ q * P
 step d q P h = omega (arith, mul-le-mul-right P (lt-of-mul-lt-mul-right P h))
 
 -- ---- every number of the format is c * 2^j units, with c of 53 digits at most
-record Parts (y : Float) : Type 0 where
-  digits : ℕ
-  exponent : ℕ
-  few : digits < 2 ^ 53
-  value : HasValue y false (digits * 2 ^ exponent) (2 ^ 1074)
+pub record Parts (y : Float) : Type 0 where
+  pub digits : ℕ
+  pub exponent : ℕ
+  pub few : digits < 2 ^ 53
+  pub small : exponent ≤ 2045
+  pub value : HasValue y false (digits * 2 ^ exponent) (2 ^ 1074)
 
 positive-parts : (y : Float) → T (positive y) → T (fits binary64 y) → Parts y
 positive-parts y p f = go (ltb (toBits binary64 y) (2 ^ 52)) refl
@@ -85,17 +86,18 @@ positive-parts y p f = go (ltb (toBits binary64 y) (2 ^ 52)) refl
           digits = toBits binary64 y;
           exponent = 0;
           few = omega arith;
+          small = omega arith;
           value = subst (λ (n : ℕ). HasValue y false n (2 ^ 1074)) (sym (mul-one (toBits binary64 y))) (read-low y p f (toBits binary64 y) refl l);
         }
     go false e =
         let v = high-value y p f (toBits binary64 y) refl (ltb-false (toBits binary64 y) (2 ^ 52) e) in
-        record { digits = 2 ^ 52 + toBits binary64 y % 2 ^ 52; exponent = v .0; few = omega arith; value = v .1 }
+        record { digits = 2 ^ 52 + toBits binary64 y % 2 ^ 52; exponent = v .0; few = omega arith; small = v .1; value = v .2 }
 
-parts : (y : Float) → T (number y) → Parts y
+pub parts : (y : Float) → T (number y) → Parts y
 parts nan n = absurd n
 parts (inf s) n = absurd n
 parts (fin true m e) n = absurd n
-parts (fin false zero e) n = record { digits = 0; exponent = 0; few = omega arith; value = (refl, none (up e) (down e)) }
+parts (fin false zero e) n = record { digits = 0; exponent = 0; few = omega arith; small = omega arith; value = (refl, none (up e) (down e)) }
   where
     none : (u d : ℕ) → 0 * u * 2 ^ 1074 ≡ 0 * 2 ^ 0 * d
     none u d = ap (λ (z : ℕ). z * 2 ^ 1074) (zero-mul u) ∙ zero-mul (2 ^ 1074) ∙ sym (zero-mul d)
@@ -208,10 +210,13 @@ module _ (x : Float) (p : T (positive x)) (f : T (fits binary64 x)) where
   R-is : inUnits (root x) ≡ at .q * 2 ^ at .h
   R-is = units-of (root x) false (at .q * 2 ^ at .h) value
 
+  pub root-positive : T (positive (root x))
+  root-positive = positive-of-value (root x) (at .q * 2 ^ at .h) (2 ^ 1074) value (mul-pos (lt-of-lt-of-le (lit< tt) (at .lo)) (pow-pos (at .h)))
+
   root-nearest : Nearest (inUnits x * 2 ^ 1074) (root x)
   root-nearest = record {
     held = subst (λ (r : Float). T (fits binary64 r)) (units-read (at .q) (at .h) (at .lo) (at .hi) (at .small) ∙ sym (at .made)) (ofBits-fits binary64 (at .h * 2 ^ 52 + at .q));
-    above-zero = positive-of-value (root x) (at .q * 2 ^ at .h) (2 ^ 1074) value (mul-pos (lt-of-lt-of-le (lit< tt) (at .lo)) (pow-pos (at .h)));
+    above-zero = root-positive;
     to-lower = λ y n l.
         let v = parts y n in
         subst (λ (R : ℕ). square (inUnits y + R) < 4 * (inUnits x * 2 ^ 1074)) (sym R-is)
@@ -221,6 +226,20 @@ module _ (x : Float) (p : T (positive x)) (f : T (fits binary64 x)) where
         subst (λ (R : ℕ). 4 * (inUnits x * 2 ^ 1074) < square (R + inUnits y)) (sym R-is)
         (higher-side (inUnits x * 2 ^ 1074) (at .M) (at .q) (at .h) (at .close) (at .whole) (at .lo) (at .large) (inUnits y) (v .digits) (v .exponent) (v .few) (units-of y false (v .digits * 2 ^ v .exponent) (v .value)) (subst (λ (R : ℕ). R < inUnits y) R-is l));
   }
+
+  -- ---- what the laws of a quotient by the root ask (proofs/RootBounds.antt)
+  pub root-value : HasValue (root x) false (inUnits (root x)) (2 ^ 1074)
+  root-value = rw R-is value
+
+  -- half of x is at most the square
+  pub root-square : inUnits x * 2 ^ 1074 ≤ 2 * (inUnits (root x) * inUnits (root x))
+  root-square = rw (at .whole, R-is) (half-square (at .M) (at .q) (2 ^ at .h) (at .close) (lt-of-lt-of-le (lit< tt) (at .lo)))
+    where
+      half-square : (M q P : ℕ) → Near M q → 0 < q → M * (P * P) ≤ 2 * (q * P * (q * P))
+      half-square M q P n Q = omega (arith, mul-le-mul-right (P * P) (twice M q n Q))
+        where
+          twice : (M q : ℕ) → Near M q → 0 < q → M ≤ 2 * (q * q)
+          twice M q n Q = omega (arith, mul-le-mul-left q Q)
 
 -- ---- there is one
 same-bits : (r t : Float) → T (positive r) → T (fits binary64 r) → T (positive t) → T (fits binary64 t) → inUnits r ≡ inUnits t → r ≡ t
@@ -234,7 +253,7 @@ same-bits r t p f g h e =
     ∙ ap (ofBits binary64) (bits-of r m (a .value) ∙ ap (λ (z : ℕ). (size z - 53) * 2 ^ 52 + z / 2 ^ (size z - 53)) same ∙ sym (bits-of t n (b .value)))
     ∙ ofBits-toBits binary64 t h
 
-a-number : (r : Float) → T (positive r) → T (fits binary64 r) → T (number r)
+pub a-number : (r : Float) → T (positive r) → T (fits binary64 r) → T (number r)
 a-number nan p f = p
 a-number (inf s) p f = p
 a-number (fin true m e) p f = p

@@ -135,8 +135,8 @@ module _ (x : Float) (p : T (positive x)) (f : T (fits binary64 x)) (b : ℕ) (i
   pub high-small : 2 ^ 52 ≤ b → b / 2 ^ 52 < 2047
   high-small h = read-high h .small
 
-  pub high-value : (h : 2 ^ 52 ≤ b) → (k : ℕ) × HasValue x false ((2 ^ 52 + b % 2 ^ 52) * 2 ^ k) (2 ^ 1074)
-  high-value h = (read-high h .exponent, read-high h .value)
+  pub high-value : (h : 2 ^ 52 ≤ b) → (k : ℕ) × (k ≤ 2045) × HasValue x false ((2 ^ 52 + b % 2 ^ 52) * 2 ^ k) (2 ^ 1074)
+  high-value h = let r = read-high h in (r .exponent, omega (arith, r .is-field, r .small), r .value)
 
   pub high-scaled : 2 ^ 52 ≤ b → (b % 2 ^ 52 + 2 ^ 52) * 2 ^ (b / 2 ^ 52 + 1073) ≡ inUnits x * 2 ^ 1074
   high-scaled h =
