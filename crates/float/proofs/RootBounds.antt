@@ -19,7 +19,7 @@ use Rattle.float.specs.Number.{two}
 use Rattle.float.specs.Nearest.{number}
 use Rattle.float.specs.Pick.{magnitude}
 use Rattle.float.specs.Root.{inUnits, root}
-use Rattle.float.proofs.Bounds.{power, div-is, round-most}
+use Rattle.float.proofs.Bounds.{power, AtMost, div-is, round-most}
 use Rattle.float.proofs.Cases.{low-or-high}
 use Rattle.float.proofs.Numbers.{two-rounded}
 use Rattle.float.proofs.Order.{le-trans}
@@ -105,6 +105,15 @@ doubled D a b k h g = omega (arith, pow-add 2 a b, two-pow-succ (a + b), two-pow
 crossed : (D R n d U : ℕ) → 0 < U → D * U ≤ 2 * (R * R) → 2 * R * d ≤ n * U → 2 * D * (d * d) ≤ n * n * U
 crossed D R n d U u h k = le-of-mul-le-mul-right {k = U} (omega (arith, mul-le-mul-right (d * d) h, mul-le-mul k k)) u
 
+own-size : (d : Float) → T (positive d) → magnitude d ≡ d
+own-size nan p = absurd p
+own-size (inf s) p = absurd p
+own-size (fin true m e) p = absurd p
+own-size (fin false m e) p = refl
+
+power-value : (n : ℕ) → 1 * n * 1 ≡ n * 1
+power-value n = omega arith
+
 no-double : (D U : ℕ) → 0 < D → 0 < U → 2 * D * U ≤ D * U → ⊥
 no-double D U p q h = omega (arith, mul-pos p q)
 
@@ -116,7 +125,7 @@ square-above (inf s) p a h = absurd p
 square-above (fin true m e) p a h = round-mono binary64 a (2 ^ 1074) (m * up e * (m * up e)) (down e * down e) (pow-pos 1074) (mul-pos (down-pos e) (down-pos e)) h
 square-above (fin false m e) p a h = round-mono binary64 a (2 ^ 1074) (m * up e * (m * up e)) (down e * down e) (pow-pos 1074) (mul-pos (down-pos e) (down-pos e)) h
 
-module _ (x d : Float) (X : T (finite x)) (p : T (positive d)) (f : T (fits binary64 d)) (few : T (le d (power 1022))) (h : T (le (mul binary64 x x) d)) where
+module _ (x d : Float) (X : T (finite x)) (p : T (positive d)) (f : T (fits binary64 d)) (k : ℕ) (K : k ≤ 1022) (few : AtMost k d) (h : T (le (mul binary64 x x) d)) where
   abbrev D : ℕ
   D = inUnits d
 
@@ -133,7 +142,7 @@ module _ (x d : Float) (X : T (finite x)) (p : T (positive d)) (f : T (fits bina
   twice = round binary64 false (2 * D) (2 ^ 1074)
 
   small : 2 * D < 2 ^ (1074 + 1024)
-  small = doubled D 1022 1074 (1074 + 1024) (values-of-le d (power 1022) D (2 ^ 1074) (2 ^ 1022) 1 p tt d-value (refl, refl) few) (omega arith)
+  small = doubled D k 1074 (1074 + 1024) (values-of-le d (power k) D (2 ^ 1074) (2 ^ k) 1 p tt d-value (refl, power-value (2 ^ k)) (rw (own-size d p) at few)) (omega arith)
 
   twice-value : HasValue twice false (2 * D) (2 ^ 1074)
   twice-value =
