@@ -11,15 +11,16 @@ use lib.Ieee.{Float}
 use borrow.Author.Tests.{eq-eqb, ne-eqb, le-ltb, lt-ltb}
 use borrow.Rule.Slice.PartMut.{postOf}
 use Rattle.float.specs.Number.{nought}
+use Rattle.triangle.specs.declared.Unadmitted.{Unadmitted}
+use Rattle.triangle.specs.declared.Unadmitted.the-variants.{At, Nothing}
+use Rattle.triangle.specs.Mesh.{firstRefused}
 use Rattle.builder.specs.declared.Built.{Built}
 use Rattle.builder.specs.declared.Built.the-variants.{Refused, Tree as Grew}
 use Rattle.builder.specs.declared.division.Made.{Made}
 use Rattle.builder.specs.declared.division.Made.the-variants.{Deep, Next}
-use Rattle.builder.specs.declared.start.Found.{Found}
-use Rattle.builder.specs.declared.start.Found.the-variants.{At, Nothing}
 use Rattle.lent.specs.Permutation.{upTo}
-use Rattle.builder.specs.Build.{Outcome, built, checked, cramped, finished, firstRefused, outcome, room}
 use Rattle.tree.proofs.Counts.{odd-size}
+use Rattle.builder.specs.Build.{Outcome, built, checked, cramped, finished, outcome, room}
 use Rattle.builder.specs.Layout.{Divided, boxesOf, linksOf}
 use Rattle.lent.specs.Limits.{deepest, most-triangles}
 use Rattle.tree.specs.Tree.{Tree, below, internal, leaf, leaves}
@@ -100,15 +101,15 @@ module _ (m : List Float) (xs : List ℕ) (bs : List Float) (ls : List ℕ) wher
       unfolding built cramped
       built-4′ g h = rw (eq-eqb (length m % 12) 0 p, le-ltb most-triangles (length m / 12) q, le-ltb (length xs) (length m / 12) r, ← e, le-ltb (length bs / 6) k g, lt-ltb (length ls / 3) k h)
 
-      pub built-check : (f : Found) → k ≤ length bs / 6 → k ≤ length ls / 3 → f ≡ firstRefused m 0 (length m / 12) → checked m (length m / 12) f xs bs ls ≡ built m xs bs ls
+      pub built-check : (f : Unadmitted) → k ≤ length bs / 6 → k ≤ length ls / 3 → f ≡ firstRefused m 0 (length m / 12) → checked m (length m / 12) f xs bs ls ≡ built m xs bs ls
       unfolding built cramped
       built-check f g h b = rw (eq-eqb (length m % 12) 0 p, le-ltb most-triangles (length m / 12) q, le-ltb (length xs) (length m / 12) r, ← e, le-ltb (length bs / 6) k g, le-ltb (length ls / 3) k h, b)
 
-      pub built-5 : (f : Found) (i : ℕ) → k ≤ length bs / 6 → k ≤ length ls / 3 → f ≡ firstRefused m 0 (length m / 12) → f ≡ At i → outcome (Refused 5 i) xs bs ls ≡ built m xs bs ls
+      pub built-5 : (f : Unadmitted) (i : ℕ) → k ≤ length bs / 6 → k ≤ length ls / 3 → f ≡ firstRefused m 0 (length m / 12) → f ≡ At i → outcome (Refused 5 i) xs bs ls ≡ built m xs bs ls
       unfolding checked
-      built-5 f i g h b w = ap (λ (z : Found). checked m (length m / 12) z xs bs ls) (sym w) ∙ built-check f g h b
+      built-5 f i g h b w = ap (λ (z : Unadmitted). checked m (length m / 12) z xs bs ls) (sym w) ∙ built-check f g h b
 
-      pub built-6 : (f : Found) (o : Outcome) → k ≤ length bs / 6 → k ≤ length ls / 3 → f ≡ firstRefused m 0 (length m / 12) → f ≡ Nothing
+      pub built-6 : (f : Unadmitted) (o : Outcome) → k ≤ length bs / 6 → k ≤ length ls / 3 → f ≡ firstRefused m 0 (length m / 12) → f ≡ Nothing
           → o ≡ finished (length m / 12) (grow m deepest 0 (upTo (length m / 12))) xs bs ls → o ≡ built m xs bs ls
       unfolding checked
-      built-6 f o g h b w q = q ∙ ap (λ (z : Found). checked m (length m / 12) z xs bs ls) (sym w) ∙ built-check f g h b
+      built-6 f o g h b w q = q ∙ ap (λ (z : Unadmitted). checked m (length m / 12) z xs bs ls) (sym w) ∙ built-check f g h b

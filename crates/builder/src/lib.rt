@@ -10,7 +10,7 @@ mod division; // division.rt: the division of a range, which calls itself
 mod start; // start.rt: what is tested and written before and after the division
 
 use division::Made;
-use start::Found;
+use triangle::Unadmitted;
 ghost use mathlib.Core.Path.{_≡_};
 ghost use Prim.Native.Nat.{_+_, _*_, _/_, _≤_, _-_};
 ghost use lib.ListN.{length};
@@ -57,8 +57,8 @@ pub fn build(triangles: &[f64], index: &mut [u32], boxes: &mut [f64], links: &mu
             at: room,
         };
     }
-    let bad = start::first_refused(triangles, n);
-    if let Found::At(i) = bad {
+    let bad = triangle::first_refused(triangles, n);
+    if let Unadmitted::At(i) = bad {
         return Built::Refused { number: 5, at: i };
     }
     make(triangles, index, boxes, links, n)

@@ -1,5 +1,8 @@
-// The float calls that Rattle lacks, by document 01's rules: the infinity, `abs`, `min`, `max` and `total_cmp`.
+// The float calls that Rattle lacks, by the rules of documents 01 and 02: the infinity, `abs`, `min`, `max`, `total_cmp` and `sqrt`.
 // Each answers on every f64. The laws of the order and of rounding, which the other layers cite, stand in proofs/.
+mod square_root; // square_root.rt: the square root
+
+pub use square_root::root;
 ghost use mathlib.Core.Path.{_≡_};
 ghost use lib.Ieee.{binary64, toBits, ofBits};
 ghost use Rattle.float.specs.Number.{infinity};
