@@ -27,7 +27,8 @@ use Rattle.builder.specs.Range.{boxFrom, nodeBox}
 use Rattle.builder.specs.Tree.{Grown, Tree, below, deepest, grow, leaves, most-triangles}
 use Rattle.builder.proofs.Enclosing.{Admitted, node-bounded}
 use Rattle.builder.proofs.Fills.{room-is}
-use Rattle.builder.proofs.Perm.{occ-at, up-below}
+use Rattle.lent.proofs.Permutation.{occ-at}
+use Rattle.builder.proofs.Perm.{up-below}
 use Rattle.builder.proofs.Placing.{Placed, boxes-length, held, links-length, child-of-one, placed, placed-same, same-numbers}
 use Rattle.builder.proofs.Rest.{boxes-rest, links-rest}
 use Rattle.builder.proofs.Trees.{Fine, Of-some, grown-fine}

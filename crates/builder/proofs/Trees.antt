@@ -16,7 +16,7 @@ use Rattle.triangle.specs.Mesh.{centroidAt}
 use Rattle.builder.specs.declared.split.SplitDecision.{SplitDecision}
 use Rattle.builder.specs.declared.split.SplitDecision.the-variants.{MakeLeaf, Split}
 use Rattle.builder.specs.Fallback.{ahead, ordered, separated}
-use Rattle.builder.specs.Heap.{Perm, occ}
+use Rattle.lent.specs.Permutation.{Perm, occ}
 use Rattle.builder.specs.Lists.{In, Nested, Runs, boxOf, depth}
 use Rattle.builder.specs.Partition.{Parted, lower, moves, parted, parts, swapped}
 use Rattle.builder.specs.Range.{nodeBox}
@@ -25,7 +25,8 @@ use Rattle.builder.proofs.Enclosing.{Admitted, node-bounded, node-insid
 use Rattle.builder.proofs.Growing.{decides-four, grow-deep, grow-fork, grow-leaf, settled-by, split-between, split-length}
 use Rattle.builder.proofs.Linear.{linear-ahead}
 use Rattle.builder.proofs.Parting.{length-swap, moves-by}
-use Rattle.builder.proofs.Perm.{occ-append, perm-swap, sorted-occ}
+use Rattle.lent.proofs.Permutation.{occ-append, perm-swap}
+use Rattle.builder.proofs.Perm.{sorted-occ}
 
 -- ---- a partition and the fallback keep the numbers
 moves-same : (keep : ℕ → Bool) (k l : ℕ) (xs : List ℕ) → l + k ≤ length xs → Perm (moves keep k l xs .ids) xs

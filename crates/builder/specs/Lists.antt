@@ -10,7 +10,7 @@ use lib.Ieee.{Float}
 use Rattle.aabb.specs.declared.bounds.Aabb.{Aabb}
 use Rattle.aabb.specs.Bounds.{bounded, usable, contains, boxAt}
 use Rattle.triangle.specs.Mesh.{triangleAt, admittedTriangle}
-use Rattle.builder.specs.Heap.{Perm}
+use Rattle.lent.specs.Permutation.{Perm}
 use Rattle.builder.specs.Tree.{most-triangles, most-nodes, deepest, Tree, leaf, fork, below, leaves}
 use Rattle.builder.specs.Build.{upTo}
 

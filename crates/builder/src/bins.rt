@@ -10,7 +10,7 @@ ghost use Rattle.float.specs.Number.{infinity};
 ghost use Rattle.aabb.specs.Vector.{along};
 ghost use Rattle.aabb.specs.Bounds.{union, boxAt};
 ghost use Rattle.builder.specs.Tree.{most-triangles};
-ghost use Rattle.builder.specs.Heap.{occ};
+ghost use Rattle.lent.specs.Permutation.{occ};
 ghost use Rattle.builder.specs.Layout.{boxPut};
 ghost use Rattle.builder.specs.Bins.{whole, noBin, joinBins, binOf, filled};
 ghost use Rattle.builder.specs.Lanes.{Clear, AllClear, binAt, lane, Lanes, Vacant};

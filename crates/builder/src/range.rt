@@ -9,7 +9,7 @@ ghost use Prim.Native.Nat.{ℕ, _+_, _/_, _≤_, _<_};
 ghost use lib.ListN.{length};
 ghost use Rattle.builder.specs.Tree.{most-triangles};
 ghost use Rattle.builder.specs.Range.{nodeBox, centroidBox};
-ghost use Rattle.builder.specs.Heap.{occ};
+ghost use Rattle.lent.specs.Permutation.{occ};
 ghost use Rattle.aabb.specs.Vector.{vectorAt};
 ghost use Rattle.aabb.specs.Bounds.{ofThree};
 ghost use Rattle.triangle.specs.Mesh.{triangleAt, centroidAt};

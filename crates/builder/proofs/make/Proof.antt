@@ -8,7 +8,7 @@ use lib.Ieee.{Float, le}
 use borrow.Rule.Slice.PartMut.{postOf}
 use Rattle.float.specs.Number.{nought}
 use Rattle.builder.specs.Build.{upTo}
-use Rattle.builder.specs.Heap.{occ}
+use Rattle.lent.specs.Permutation.{occ}
 use Rattle.builder.specs.Layout.{Divided}
 use Rattle.builder.specs.Tree.{deepest, grow}
 use Rattle.builder.proofs.Heaps.{lent}

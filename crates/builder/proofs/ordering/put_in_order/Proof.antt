@@ -6,7 +6,8 @@ use lib.ListN.{length}
 use lib.Seq.{length-take-le}
 use Rattle.triangle.specs.Mesh.{centroidAt}
 use Rattle.builder.specs.Fallback.{ahead, ordered}
-use Rattle.builder.specs.Heap.{HeapFrom, Perm}
+use Rattle.lent.specs.Permutation.{Perm}
+use Rattle.builder.specs.Heap.{HeapFrom}
 use Rattle.builder.proofs.Heaps.{Sifted, heap-none, lent, sifted-end, sifted-start, turned}
 use Rattle.builder.proofs.Linear.{linear-ahead}
 use Rattle.builder.proofs.Parting.{length-swap}
