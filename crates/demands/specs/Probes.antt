@@ -21,7 +21,8 @@ use Rattle.builder.specs.declared.split.SplitDecision.the-variants.{Split}
 use Rattle.builder.specs.Tree.{decision}
 use Rattle.builder.specs.Build.{Outcome, outcome, room, upTo, built}
 use Rattle.walk.specs.Lent.{triangleCount}
-use Rattle.walk.specs.Answer.{Told, none}
+use Rattle.lent.specs.Ladder.{none}
+use Rattle.walk.specs.Answer.{Told}
 use Rattle.walk.specs.Walk.{walk}
 use Rattle.demands.specs.Handed.{handed}
 
