@@ -1,6 +1,6 @@
 -- A call's answer is read off its ladder check by check: one that fails stops, one that passes goes on, and where none is left the call is
 -- served. So the proof of a return is a chain, `ends (goes .. (goes .. (stops ..)))`, of what the code's tests said. Assumes nothing.
-use mathlib.Core.Path.{_≡_, refl, ap}
+use mathlib.Core.Path.{_≡_, ap}
 use mathlib.Core.Bool.{Bool, true, false, not}
 use mathlib.Core.List.{List, [], _∷_}
 use Prim.Native.Nat.{ℕ, _≤_, _<_}

@@ -7,5 +7,3 @@ pub mod Entrance
 pub mod Accepting
 pub mod NearestHit
 pub mod SameHit
-pub mod Room
-pub mod Whole

@@ -4,5 +4,4 @@ pub mod Walk
 pub mod State
 pub mod Tree
 pub mod NearestHit
-pub mod Sky
 pub mod Leaves
