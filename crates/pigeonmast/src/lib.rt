@@ -17,7 +17,7 @@ ghost use Rattle.aabb.specs.Slab.{slab};
 ghost use Rattle.triangle.specs.Mesh.{triangleAt};
 ghost use Rattle.triangle.specs.Meeting.{strike};
 ghost use Rattle.builder.specs.Build.{built};
-ghost use Rattle.walk.specs.Lent.{lent};
+ghost use Rattle.tree.specs.Lent.{lent};
 ghost use Rattle.walk.specs.Answer.{told as answered};
 ghost use Rattle.walk.specs.Walk as scene;
 ghost use Rattle.sky.specs.Sky.{sky as filled};

@@ -17,7 +17,7 @@ use Rattle.walk.specs.declared.turn.Turn.{Turn}
 use Rattle.walk.specs.declared.turn.Turn.the-variants.{Refuse, Down}
 use Rattle.walk.specs.declared.leaf.Verdict.{Verdict}
 use Rattle.walk.specs.declared.leaf.Verdict.the-variants.{Fit, Unfit}
-use Rattle.walk.specs.Lent.{triangleCount}
+use Rattle.lent.specs.Ladder.{triangleCount}
 use Rattle.walk.specs.Walk.{after, tested, scan}
 use Rattle.walk.specs.State.{verdict, nearestOf}
 

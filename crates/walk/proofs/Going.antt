@@ -10,7 +10,8 @@ use Rattle.walk.specs.declared.pending.Pending.{Pending}
 use Rattle.walk.specs.declared.tally.Tally.{Tally}
 use Rattle.walk.specs.declared.turn.Turn.{Turn}
 use Rattle.walk.specs.declared.turn.Turn.the-variants.{Refuse, Missed, Down, Open}
-use Rattle.walk.specs.Lent.{Lent, most-pending, most-nodes, nodeCount}
+use Rattle.tree.specs.Lent.{Lent, nodeCount}
+use Rattle.lent.specs.Limits.{most-pending, most-nodes}
 use Rattle.walk.specs.Walk.{start, boxed, visit, refused, over, onward, run}
 use Rattle.walk.specs.State.{top, pending, besides, Ready}
 use Rattle.walk.proofs.Listed.{taken, length-top}
@@ -22,7 +23,7 @@ Each n [] = Unit {0}
 Each n (x ∷ xs) = (x < n) × Each n xs
 
 pub record Going (s : Lent) (r : Ray) (n : ℕ) (p : Pending) (a : Tally) : Type 0 where
-  pub whole : n ≡ nodeCount (s .links)
+  pub whole : n ≡ nodeCount (s .tree .links)
   pub few : n ≤ most-nodes
   pub room : p .len ≤ most-pending
   pub below : Each n (pending p)
@@ -30,7 +31,7 @@ pub record Going (s : Lent) (r : Ray) (n : ℕ) (p : Pending) (a : Tally) : Type
   pub counted : a .triangles ≤ a .boxes * 2 ^ 32
   pub same : run s r (n - a .boxes) (pending p) a ≡ run s r n (0 ∷ []) start
 
-pub none-pending : (s : Lent) (r : Ray) (left : ℕ) (a : Tally) → run s r left [] a ≡ over (s .triangles) r a
+pub none-pending : (s : Lent) (r : Ray) (left : ℕ) (a : Tally) → run s r left [] a ≡ over (s .mesh) r a
 unfolding run
 none-pending s r zero a = refl
 none-pending s r (suc left) a = refl
@@ -43,7 +44,7 @@ pub one-left : (s : Lent) (r : Ray) (left more i : ℕ) (rest : List ℕ) (a : T
 unfolding run
 one-left s r left more i rest a e = rw e
 
-pub begun : (s : Lent) (r : Ray) (p : Pending) → 0 < nodeCount (s .links) → nodeCount (s .links) ≤ most-nodes → p .len ≡ 1 → pending p ≡ 0 ∷ [] → Going s r (nodeCount (s .links)) p start
+pub begun : (s : Lent) (r : Ray) (p : Pending) → 0 < nodeCount (s .tree .links) → nodeCount (s .tree .links) ≤ most-nodes → p .len ≡ 1 → pending p ≡ 0 ∷ [] → Going s r (nodeCount (s .tree .links)) p start
 begun s r p h m l f = record {
   whole = refl;
   few = m;
@@ -55,7 +56,7 @@ begun s r p h m l f = record {
 }
 
 -- nothing is pending
-pub ended : {s : Lent} {r : Ray} {n : ℕ} {p : Pending} {a : Tally} → Going s r n p a → p .len ≡ 0 → over (s .triangles) r a ≡ run s r n (0 ∷ []) start
+pub ended : {s : Lent} {r : Ray} {n : ℕ} {p : Pending} {a : Tally} → Going s r n p a → p .len ≡ 0 → over (s .mesh) r a ≡ run s r n (0 ∷ []) start
 ended {s} {r} {n} {p} {a} G e =
     sym (none-pending s r (n - a .boxes) a)
     ∙ ap (λ (k : ℕ). run s r (n - a .boxes) (top (p .nodes) k) a) (sym e)
@@ -92,7 +93,7 @@ module _ {s : Lent} {r : Ray} {n : ℕ} {p : Pending} {a b : Tally} (C : Countin
   unfolding boxed
   no-triangle = ap (λ (t : Tally). t .triangles) (C .one)
 
-  pub ready : Ready (s .links) (lastOf p) (p .len - 1) b
+  pub ready : Ready (s .tree .links) (lastOf p) (p .len - 1) b
   ready =
       let G = C .going in
       let w = G .whole in
@@ -138,8 +139,8 @@ module _ {s : Lent} {r : Ray} {n : ℕ} {p : Pending} {a b : Tally} (C : Countin
     pub missed : t ≡ Missed → (q : Pending) → q .len ≡ p .len - 1 → pending q ≡ besides p → Going s r n q b
     missed g q l h = went q b (omega (arith, C .going .room)) (rw h (all-below (C .going) (C .some) .1)) unchanged (rw h (rw g at next))
 
-    module _ (small : (k : ℕ) → getD (s .links) k 0 < 2 ^ 32) where
-      bounds : Leaves (nodeCount (s .links)) (p .len - 1) (b .boxes) (b .triangles + 2 ^ 32) t
+    module _ (small : (k : ℕ) → getD (s .tree .links) k 0 < 2 ^ 32) where
+      bounds : Leaves (nodeCount (s .tree .links)) (p .len - 1) (b .boxes) (b .triangles + 2 ^ 32) t
       bounds = rw e (visited s r (lastOf p) (p .len - 1) b small)
 
       -- a leaf is done with
@@ -155,7 +156,7 @@ module _ {s : Lent} {r : Ray} {n : ℕ} {p : Pending} {a b : Tally} (C : Countin
 
       -- its children take its place
       module _ {left right : ℕ} (g : t ≡ Open left right) where
-        opened : Opens (nodeCount (s .links)) (p .len - 1) left right
+        opened : Opens (nodeCount (s .tree .links)) (p .len - 1) left right
         opened = rw g at bounds
 
         pub open-room : p .len < most-pending

@@ -17,8 +17,10 @@ use Rattle.aabb.specs.Slab.{aimed, through, slab, isPassed, passes}
 use Rattle.walk.specs.declared.tally.Tally.{Tally}
 use Rattle.walk.specs.declared.turn.Turn.{Turn}
 use Rattle.walk.specs.declared.turn.Turn.the-variants.{Refuse, Missed, Open}
-use Rattle.walk.specs.declared.node.Node.{Node}
-use Rattle.walk.specs.Lent.{Lent, most-pending, nodeCount, leftOrFirst, nodeAt, sound, leftOf, rightOf}
+use Rattle.tree.specs.declared.Node.{Node}
+use Rattle.tree.specs.Lent.{Lent, nodeCount}
+use Rattle.lent.specs.Limits.{most-pending}
+use Rattle.tree.specs.Node.{leftOrFirst, nodeOf, sound, leftOf, rightOf}
 use Rattle.walk.specs.Walk.{scan, openLeaf, openInternal, opened, judged, visit}
 
 -- ---- a leaf
@@ -32,7 +34,7 @@ module _ (mesh : List Float) (index : List ℕ) (r : Ray) (i : ℕ) (x : Node) (
   leaf-within h = rw (le-ltb (length index) (leftOrFirst x + x .count) h)
 
 -- ---- an internal node
-module _ (nodes i : ℕ) (x : Node) (besides left right : ℕ) (l : left ≡ leftOf x) (e : right ≡ rightOf x) where
+module _ (nodes i : ℕ) (x : Node) (besides left right : ℕ) (l : left ≡ leftOf i x) (e : right ≡ rightOf i x) where
   abbrev decided : Turn
   decided = cond (leb nodes left || leb nodes right) (Refuse 9 i) (cond (ltb most-pending (besides + 2)) (Refuse 11 i) (Open left right))
 
@@ -78,7 +80,7 @@ module _ (m : Aim) (b : Aabb) (A : m ≡ aimed (m .ray)) (s : Span) (e : s ≡ t
   passed enter exit f = rw f at tells
 
 -- ---- a node
-module _ (s : Lent) (r : Ray) (i besides : ℕ) (a : Tally) (x : Node) (e : x ≡ nodeAt (s .boxes) (s .links) i) where
+module _ (s : Lent) (r : Ray) (i besides : ℕ) (a : Tally) (x : Node) (e : x ≡ nodeOf (s .tree) i) where
   at-node : judged s r i x besides a ≡ visit s r i besides a
   unfolding visit
   at-node = rw e
@@ -93,10 +95,10 @@ module _ (s : Lent) (r : Ray) (i besides : ℕ) (a : Tally) (x : Node) (e : x �
     outside p = rw (h, p) at at-node
 
     module _ (p : passes r (x .bounds) ≡ true) where
-      pub at-leaf : x .kind ≡ 1 → openLeaf (s .triangles) (s .index) r i x a ≡ visit s r i besides a
+      pub at-leaf : x .kind ≡ 1 → openLeaf (s .mesh .triangles) (s .tree .index) r i x a ≡ visit s r i besides a
       unfolding judged opened
       at-leaf k = rw (h, p, eq-eqb (x .kind) 1 k) at at-node
 
-      pub at-internal : (x .kind ≡ 1 → ⊥) → openInternal (nodeCount (s .links)) i x besides ≡ visit s r i besides a
+      pub at-internal : (x .kind ≡ 1 → ⊥) → openInternal (nodeCount (s .tree .links)) i x besides ≡ visit s r i besides a
       unfolding judged opened
       at-internal k = rw (h, p, ne-eqb (x .kind) 1 k) at at-node

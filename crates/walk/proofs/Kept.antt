@@ -16,8 +16,11 @@ use Rattle.triangle.specs.Mesh.{triangleAt, admittedTriangle}
 use Rattle.walk.specs.declared.tally.Tally.{Tally}
 use Rattle.walk.specs.declared.turn.Turn.{Turn}
 use Rattle.walk.specs.declared.turn.Turn.the-variants.{Refuse, Missed, Down, Open}
-use Rattle.walk.specs.declared.node.Node.{Node}
-use Rattle.walk.specs.Lent.{Lent, most-pending, triangleCount, nodeCount, leftOrFirst, nodeAt, sound, leftOf, rightOf}
+use Rattle.tree.specs.declared.Node.{Node}
+use Rattle.tree.specs.Lent.{Lent, nodeCount}
+use Rattle.lent.specs.Limits.{most-pending}
+use Rattle.lent.specs.Ladder.{triangleCount}
+use Rattle.tree.specs.Node.{leftOrFirst, linked, nodeAt, nodeOf, sound, leftOf, rightOf}
 use Rattle.walk.specs.Walk.{tested, scan, openLeaf, openInternal, opened, judged, visit}
 
 -- so many box tests, and at most so many triangle tests
@@ -67,38 +70,38 @@ module _ (nodes besides boxes most : ℕ) where
   internal-opened : (i : ℕ) (x : Node) → P (openInternal nodes i x besides)
   unfolding openInternal
   internal-opened i x =
-      let l = leb nodes (leftOf x) in
-      let r = leb nodes (rightOf x) in
+      let l = leb nodes (leftOf i x) in
+      let r = leb nodes (rightOf i x) in
       let full = ltb most-pending (besides + 2) in
-      let put = Open (leftOf x) (rightOf x) in
+      let put = Open (leftOf i x) (rightOf i x) in
       either P (l || r) (Refuse 9 i) (cond full (Refuse 11 i) put) (λ e. tt)
       (λ e. either P full (Refuse 11 i) put (λ f. tt)
       (λ f. record {
-        left-there = leb-false nodes (leftOf x) (neither l r e .0);
-        right-there = leb-false nodes (rightOf x) (neither l r e .1);
+        left-there = leb-false nodes (leftOf i x) (neither l r e .0);
+        right-there = leb-false nodes (rightOf i x) (neither l r e .1);
         room = ltb-false most-pending (besides + 2) f;
       }))
 
-module _ (s : Lent) (r : Ray) (i besides : ℕ) (a : Tally) (small : (k : ℕ) → getD (s .links) k 0 < 2 ^ 32) where
+module _ (s : Lent) (r : Ray) (i besides : ℕ) (a : Tally) (small : (k : ℕ) → getD (s .tree .links) k 0 < 2 ^ 32) where
   abbrev Q : Turn → Type 0
-  Q t = Leaves (nodeCount (s .links)) besides (a .boxes) (a .triangles + 2 ^ 32) t
+  Q t = Leaves (nodeCount (s .tree .links)) besides (a .boxes) (a .triangles + 2 ^ 32) t
 
-  few : nodeAt (s .boxes) (s .links) i .count < 2 ^ 32
-  unfolding nodeAt
+  few : nodeOf (s .tree) i .count < 2 ^ 32
+  unfolding linked nodeAt
   few = small (i * 3 + 1)
 
   pub visited : Q (visit s r i besides a)
   unfolding visit judged opened
   visited =
-      let n = nodeCount (s .links) in
-      let x = nodeAt (s .boxes) (s .links) i in
-      let leaf = openLeaf (s .triangles) (s .index) r i x a in
+      let n = nodeCount (s .tree .links) in
+      let x = nodeOf (s .tree) i in
+      let leaf = openLeaf (s .mesh .triangles) (s .tree .index) r i x a in
       let internal = openInternal n i x besides in
       let t = a .triangles in
       either Q (sound x) (cond (passes r (x .bounds)) (cond (eqb (x .kind) 1) leaf internal) Missed) (Refuse 9 i)
       (λ e. either Q (passes r (x .bounds)) (cond (eqb (x .kind) 1) leaf internal) Missed
       (λ f. either Q (eqb (x .kind) 1) leaf internal
-      (λ g. leaf-opened n besides (a .boxes) (t + 2 ^ 32) (s .triangles) (s .index) r i t x a (record { tests = refl; most = omega arith }) (omega (arith, few)))
+      (λ g. leaf-opened n besides (a .boxes) (t + 2 ^ 32) (s .mesh .triangles) (s .tree .index) r i t x a (record { tests = refl; most = omega arith }) (omega (arith, few)))
       (λ g. internal-opened n besides (a .boxes) (t + 2 ^ 32) i x))
       (λ f. tt))
       (λ e. tt)

@@ -12,7 +12,9 @@ use Rattle.walk.specs.declared.tally.Nearest.{Nearest}
 use Rattle.walk.specs.declared.tally.Tally.{Tally}
 use Rattle.walk.specs.declared.leaf.Verdict.{Verdict}
 use Rattle.walk.specs.declared.leaf.Verdict.the-variants.{Fit, Unfit}
-use Rattle.walk.specs.Lent.{most-pending, triangleCount, nodeCount}
+use Rattle.lent.specs.Limits.{most-nodes, most-pending}
+use Rattle.lent.specs.Ladder.{triangleCount}
+use Rattle.tree.specs.Lent.{nodeCount}
 use Rattle.walk.specs.Walk.{after}
 
 -- the first so many of the array, the last one first
@@ -30,7 +32,7 @@ besides p = top (p .nodes) (p .len - 1)
 -- what a visit of node i asks: there is such a node, there is room to speak of two more, and the triangle tests are far from wrapping
 pub record Ready (links : List ℕ) (i besides : ℕ) (a : Tally) : Type 0 where
   pub here : i < nodeCount links
-  pub few : nodeCount links ≤ 2 ^ 20
+  pub few : nodeCount links ≤ most-nodes
   pub room : besides ≤ most-pending
   pub triangles : a .triangles < 2 ^ 60
 

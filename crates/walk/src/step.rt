@@ -1,31 +1,32 @@
 // One step of the walk: a node is taken, judged, its box tested, and dropped or opened.
 use crate::leaf;
-use crate::node::Node;
 use crate::tally::Tally;
 use crate::turn::Turn;
 use aabb::Aim;
 use aabb::Span;
+use tree::Node;
 ghost use mathlib.Core.Path.{_≡_};
-ghost use Prim.Native.Nat.{_<_, _≤_, _^_};
+ghost use Prim.Native.Nat.{_≤_};
 ghost use Rattle.aabb.specs.Slab.{aimed};
-ghost use Rattle.walk.specs.Lent.{lent, most-pending};
+ghost use Rattle.tree.specs.Lent.{lent};
+ghost use Rattle.lent.specs.Limits.{most-nodes, most-pending};
 ghost use Rattle.walk.specs.Walk.{openInternal, visit};
 ghost use Rattle.walk.specs.State.{Ready};
 
 // An internal node whose box is passed, with `besides` pending besides. Right is left + 1: where it is a node, so is left.
 pub fn open_internal(nodes: usize, i: u32, x: Node, besides: usize) -> Turn
-    requires { ⌜ (nodes ≤ 2 ^ 20) × (besides ≤ most-pending) ⌝ }
+    requires { ⌜ (nodes ≤ most-nodes) × (besides ≤ most-pending) ⌝ }
     ensures { λ r. ⌜ r ≡ openInternal nodes i x besides ⌝ }
 {
-    let left = x.left();
-    let right = x.right();
+    let left = x.left(i);
+    let right = x.right(i);
     if nodes <= right {
         return Turn::Refuse {
             number: 9,
             at: i as u64,
         };
     }
-    if 64 < besides + 2 {
+    if lent::MOST_PENDING < besides + 2 {
         return Turn::Refuse {
             number: 11,
             at: i as u64,

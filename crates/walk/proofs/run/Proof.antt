@@ -5,7 +5,8 @@ use lib.ListN.{length, getD}
 use native.Mathlib.Omega.{arith}
 use borrow.Author.Needs.{needs}
 use Rattle.aabb.specs.declared.vector.Ray.{Ray}
-use Rattle.walk.specs.Lent.{Lent, lent, most-pending, nodeCount}
+use Rattle.tree.specs.Lent.{Lent, lent, nodeCount}
+use Rattle.lent.specs.Limits.{most-pending}
 use Rattle.walk.specs.Answer.{told}
 use Rattle.walk.specs.Walk.{visit}
 use Rattle.walk.proofs.Judged.{its-ray, its-own}
@@ -27,11 +28,11 @@ lists L = let A = L .before .before .before .before .before .before .before .arg
 abbrev ray : tie.At-loop Inv-loop μ-loop → Ray
 ray L = L .before .before .before .before .before .before .before .args .ray
 
-small : (L : tie.At-loop Inv-loop μ-loop) (k : ℕ) → getD (lists L .links) k 0 < 2 ^ 32
+small : (L : tie.At-loop Inv-loop μ-loop) (k : ℕ) → getD (lists L .tree .links) k 0 < 2 ^ 32
 small L k = omega (arith, L .before .before .before .shared-slice-known4 .given k)
 
 -- the node that is taken, with its box test counted, and what its visit gives
-counting : (b : tie.After-boxed Inv-loop μ-loop) → let L = b .before .before .before in Counting (lists L) (ray L) (nodeCount (lists L .links)) (L .loop .pending) (L .loop .a) (b .boxed .result)
+counting : (b : tie.After-boxed Inv-loop μ-loop) → let L = b .before .before .before in Counting (lists L) (ray L) (nodeCount (lists L .tree .links)) (L .loop .pending) (L .loop .a) (b .boxed .result)
 counting b =
     let L = b .before .before .before in record {
       going = L .loop .inv .0;

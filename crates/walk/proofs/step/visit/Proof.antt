@@ -2,7 +2,8 @@
 use mathlib.Core.Path.{_≡_, sym, _∙_}
 use mathlib.Core.Bool.{true, false, not}
 use borrow.Author.Tests.{not-true, not-false}
-use Rattle.walk.specs.Lent.{Lent, lent, sound}
+use Rattle.tree.specs.Lent.{Lent, lent}
+use Rattle.tree.specs.Node.{sound}
 use Rattle.walk.proofs.Judged.{not-passed, passed, unsound, outside, at-leaf, at-internal}
 use borrow.Author.Needs.{needs}
 use Rattle.walk.proofs.step.visit.Statement.{statement}

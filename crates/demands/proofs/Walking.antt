@@ -17,33 +17,36 @@ use Rattle.aabb.specs.Bounds.{bounded, usable, contains}
 use Rattle.aabb.specs.Slab.{passes}
 use Rattle.aabb.proofs.Inside.{usable-inside}
 use Rattle.triangle.specs.Mesh.{triangleAt, admittedTriangle}
 use Rattle.walk.specs.declared.tally.Nearest.{Nearest}
 use Rattle.walk.specs.declared.tally.Tally.{Tally}
 use Rattle.walk.specs.declared.turn.Turn.{Turn}
 use Rattle.walk.specs.declared.turn.Turn.the-variants.{Missed, Down, Open}
-use Rattle.walk.specs.declared.node.Node.{Node}
-use Rattle.walk.specs.Lent.{Lent, most-pending, triangleCount, nodeCount, sound, leftOf, rightOf}
+use Rattle.tree.specs.declared.Node.{Node}
+use Rattle.tree.specs.Lent.{Lent, nodeCount}
+use Rattle.lent.specs.Limits.{deepest, most-pending}
+use Rattle.lent.specs.Ladder.{triangleCount}
+use Rattle.tree.specs.Node.{sound, leftOf, rightOf}
 use Rattle.walk.specs.Walk.{start, boxed, after, tested, scan, openLeaf, opened, judged, visit, onward, run, walk}
-use Rattle.walk.specs.Tree.{Tree, leaf, internal, boxOf, size, leaves, depth, held, IsLeaf, IsInternal, nodeOf, Holds, Nested, Accepted, entered, places, reached, nearest, foundIn}
+use Rattle.tree.specs.Tree.{Tree, leaf, internal, boxOf, size, leaves, depth, held}
+use Rattle.tree.specs.Holds.{IsLeaf, IsInternal, Holds, Nested}
+use Rattle.tree.specs.Node.{nodeOf}
+use Rattle.tree.specs.Accepted.{Walkable}
+use Rattle.demands.specs.Reached.{entered, reached, nearest, foundIn}
+use Rattle.tree.specs.Leaves.{rangeOf}
 use Rattle.walk.proofs.Judged.{both-put}
 use Rattle.walk.proofs.Going.{none-pending, one-left}
 use Rattle.walk.proofs.Entrance.{entered as walk-entered}
 
 -- ---- counts
--- 2L-1 nodes
-pub odd-size : (t : Tree) → size t + 1 ≡ 2 * leaves t
-odd-size (leaf b p c) = refl
-odd-size (internal b u v) = omega (arith, odd-size u, odd-size v)
-
-length-places : (c p : ℕ) → length (places c p) ≡ c
-length-places zero p = refl
-length-places (suc c) p = ap suc (length-places c (suc p))
+range-length : (c p : ℕ) → length (rangeOf c p) ≡ c
+range-length zero p = refl
+range-length (suc c) p = ap suc (range-length c (suc p))
 
 pub reached-most : (r : Ray) (t : Tree) → length (reached r t) ≤ held t
 reached-most r (leaf b p c) = go (passes r b)
   where
-    go : (q : Bool) → length (cond q (places c p) []) ≤ c
-    go true = omega (arith, length-places c p)
+    go : (q : Bool) → length (cond q (rangeOf c p) []) ≤ c
+    go true = omega (arith, range-length c p)
     go false = omega arith
 reached-most r (internal b u v) = omega (arith, length-append (reached r u) (reached r v), reached-most r u, reached-most r v)
 
@@ -55,7 +58,7 @@ module _ (r : Ray) (R : T (admittedRay r)) where
   dropped : (t : Tree) → Nested t → T (not (passes r (boxOf t))) → (entered r t ≡ 0) × (reached r t ≡ [])
   dropped (leaf b p c) N n = (refl, go (passes r b) n)
     where
-      go : (q : Bool) → T (not q) → cond q (places c p) [] ≡ []
+      go : (q : Bool) → T (not q) → cond q (rangeOf c p) [] ≡ []
       go true n = absurd n
       go false n = refl
   dropped (internal b u v) N n =
@@ -66,7 +69,7 @@ module _ (r : Ray) (R : T (admittedRay r)) where
 -- ---- what a part of the walk adds to the tally
 nearest-append : (s : Lent) (r : Ray) (best : Nearest) (ps qs : List ℕ) → nearest s r best (ps ++ qs) ≡ nearest s r (nearest s r best ps) qs
 nearest-append s r best [] qs = refl
-nearest-append s r best (p ∷ ps) qs = nearest-append s r (after (s .triangles) r (getD (s .index) p 0) best) ps qs
+nearest-append s r best (p ∷ ps) qs = nearest-append s r (after (s .mesh .triangles) r (getD (s .tree .index) p 0) best) ps qs
 
 abbrev more : Lent → Ray → ℕ → List ℕ → Tally → Tally
 more s r m ps a = record { boxes = a .boxes + m; triangles = a .triangles + length ps; nearest = nearest s r (a .nearest) ps }
@@ -78,68 +81,68 @@ twice : (s : Lent) (r : Ray) (a : Tally) (m m' n : ℕ) (ps qs : List ℕ) → m
 twice s r a m m' n ps qs e =
     tally _ _ _ _ _ _ (omega arith) (omega (arith, length-append ps qs)) (sym (nearest-append s r (a .nearest) ps qs))
 
-module _ (s : Lent) (r : Ray) (entries : (p : ℕ) → p < length (s .index) → getD (s .index) p 0 < triangleCount (s .triangles)) (fine : (k : ℕ) → k < triangleCount (s .triangles) → T (admittedTriangle (triangleAt (s .triangles) k))) where
-  scan-all : (c p : ℕ) (a : Tally) → p + c ≤ length (s .index) → scan (s .triangles) (s .index) r c p a ≡ Down (more s r 0 (places c p) a)
+module _ (s : Lent) (r : Ray) (entries : (p : ℕ) → p < length (s .tree .index) → getD (s .tree .index) p 0 < triangleCount (s .mesh .triangles)) (fine : (k : ℕ) → k < triangleCount (s .mesh .triangles) → T (admittedTriangle (triangleAt (s .mesh .triangles) k))) where
+  scan-all : (c p : ℕ) (a : Tally) → p + c ≤ length (s .tree .index) → scan (s .mesh .triangles) (s .tree .index) r c p a ≡ Down (more s r 0 (rangeOf c p) a)
   unfolding scan tested
   scan-all zero p a h = ap Down (tally _ _ _ _ _ _ (omega arith) (omega arith) refl)
   scan-all (suc c) p a h =
-      let k = getD (s .index) p 0 in
+      let k = getD (s .tree .index) p 0 in
       let e = entries p (omega arith) in
-      rw (lt-leb (triangleCount (s .triangles)) k e, is-true (admittedTriangle (triangleAt (s .triangles) k)) (fine k e))
-      (scan-all c (suc p) (tested (s .triangles) r k a) (omega arith) ∙ ap Down (tally _ _ _ _ _ _ refl (omega arith) refl))
+      rw (lt-leb (triangleCount (s .mesh .triangles)) k e, is-true (admittedTriangle (triangleAt (s .mesh .triangles) k)) (fine k e))
+      (scan-all c (suc p) (tested (s .mesh .triangles) r k a) (omega arith) ∙ ap Down (tally _ _ _ _ _ _ refl (omega arith) refl))
 
-  leaf-visit : (i besides : ℕ) (x : Node) (a : Tally) (b : Aabb) (p c : ℕ) → IsLeaf s x b p c → T (usable b)
-      → judged s r i x besides a ≡ cond (passes r b) (Down (more s r 0 (places c p) a)) Missed
+  leaf-visit : (i besides : ℕ) (x : Node) (a : Tally) (b : Aabb) (p c : ℕ) → IsLeaf (s .tree) x b p c → T (usable b)
+      → judged s r i x besides a ≡ cond (passes r b) (Down (more s r 0 (rangeOf c p) a)) Missed
   unfolding judged sound opened openLeaf
   leaf-visit i besides x a b p c H B =
-      rw (H .bounds, H .first, H .count, H .kind, is-true (usable b) B, le-ltb (length (s .index)) (p + c) (H .inside))
+      rw (H .bounds, H .first, H .count, H .kind, is-true (usable b) B, le-ltb (length (s .tree .index)) (p + c) (H .inside))
       (go (passes r b))
     where
-      go : (q : Bool) → cond q (scan (s .triangles) (s .index) r c p a) Missed ≡ cond q (Down (more s r 0 (places c p) a)) Missed
+      go : (q : Bool) → cond q (scan (s .mesh .triangles) (s .tree .index) r c p a) Missed ≡ cond q (Down (more s r 0 (rangeOf c p) a)) Missed
       go true = scan-all c p a (H .inside)
       go false = refl
 
-  sound-internal : (x : Node) (b : Aabb) → IsInternal s x b → T (usable b) → sound x ≡ true
+  sound-internal : (i : ℕ) (x : Node) (b : Aabb) → IsInternal (s .tree) i x b → T (usable b) → sound x ≡ true
   unfolding sound
-  sound-internal x b H B = rw (H .bounds, is-true (usable b) B, H .kind, H .count)
+  sound-internal i x b H B = rw (H .bounds, is-true (usable b) B, H .kind, H .count)
 
-  internal-visit : (i besides : ℕ) (x : Node) (a : Tally) (b : Aabb) → IsInternal s x b → T (usable b) → besides + 2 ≤ most-pending
-      → judged s r i x besides a ≡ cond (passes r b) (Open (leftOf x) (rightOf x)) Missed
+  internal-visit : (i besides : ℕ) (x : Node) (a : Tally) (b : Aabb) → IsInternal (s .tree) i x b → T (usable b) → besides + 2 ≤ most-pending
+      → judged s r i x besides a ≡ cond (passes r b) (Open (leftOf i x) (rightOf i x)) Missed
   unfolding judged opened
   internal-visit i besides x a b H B k =
-      rw (sound-internal x b H B, ap (passes r) (H .bounds), ne-eqb (x .kind) 1 (λ e. omega (arith, H .kind)), ← both-put (nodeCount (s .links)) i x besides (leftOf x) (rightOf x) refl refl (H .right-there) k)
+      rw (sound-internal i x b H B, ap (passes r) (H .bounds), ne-eqb (x .kind) 1 (λ e. omega (arith, H .kind)), ← both-put (nodeCount (s .tree .links)) i x besides (leftOf i x) (rightOf i x) refl refl (H .right-there) k)
 
   -- ---- a tree whose root is taken from the pending nodes, with the rest pending below it
   module _ (R : T (admittedRay r)) where
     abbrev Walks : Tree → Type 0
-    Walks t = (i : ℕ) (rest : List ℕ) (left later : ℕ) (a : Tally) → Holds s i t → Nested t → length rest + depth t ≤ 63 → left ≡ 1 + 2 * entered r t + later
+    Walks t = (i : ℕ) (rest : List ℕ) (left later : ℕ) (a : Tally) → Holds (s .tree) i t → Nested t → length rest + depth t ≤ deepest → left ≡ 1 + 2 * entered r t + later
         → run s r left (i ∷ rest) a ≡ run s r later rest (more s r (1 + 2 * entered r t) (reached r t) a)
 
     leaf-walks : (b : Aabb) (p c : ℕ) → Walks (leaf b p c)
     unfolding visit boxed
     leaf-walks b p c i rest left later a H N d e =
         one-left s r left later i rest a (omega arith)
-        ∙ ap (λ (t : Turn). onward t rest (boxed a) (run s r later)) (leaf-visit i (length rest) (nodeOf s i) (boxed a) b p c H N)
+        ∙ ap (λ (t : Turn). onward t rest (boxed a) (run s r later)) (leaf-visit i (length rest) (nodeOf (s .tree) i) (boxed a) b p c H N)
         ∙ go (passes r b)
       where
-        go : (q : Bool) → onward (cond q (Down (more s r 0 (places c p) (boxed a))) Missed) rest (boxed a) (run s r later) ≡ run s r later rest (more s r 1 (cond q (places c p) []) a)
+        go : (q : Bool) → onward (cond q (Down (more s r 0 (rangeOf c p) (boxed a))) Missed) rest (boxed a) (run s r later) ≡ run s r later rest (more s r 1 (cond q (rangeOf c p) []) a)
         go true = ap (run s r later rest) (tally _ _ _ _ _ _ (omega arith) refl refl)
         go false = ap (run s r later rest) (tally _ _ _ _ _ _ refl (omega arith) refl)
 
-    module _ (b : Aabb) (u v : Tree) (i : ℕ) (rest : List ℕ) (left later : ℕ) (a : Tally) (H : Holds s i (internal b u v)) (N : Nested (internal b u v)) (d : length rest + depth (internal b u v) ≤ 63)
+    module _ (b : Aabb) (u v : Tree) (i : ℕ) (rest : List ℕ) (left later : ℕ) (a : Tally) (H : Holds (s .tree) i (internal b u v)) (N : Nested (internal b u v)) (d : length rest + depth (internal b u v) ≤ deepest)
         (e : left ≡ 1 + 2 * entered r (internal b u v) + later) where
       abbrev Walked : Type 0
       Walked = run s r left (i ∷ rest) a ≡ run s r later rest (more s r (1 + 2 * entered r (internal b u v)) (reached r (internal b u v)) a)
 
-      visited : (q : Bool) → passes r b ≡ q → visit s r i (length rest) (boxed a) ≡ cond q (Open (leftOf (nodeOf s i)) (rightOf (nodeOf s i))) Missed
+      visited : (q : Bool) → passes r b ≡ q → visit s r i (length rest) (boxed a) ≡ cond q (Open (leftOf i (nodeOf (s .tree) i)) (rightOf i (nodeOf (s .tree) i))) Missed
       unfolding visit
-      visited q t = rw (← t) (internal-visit i (length rest) (nodeOf s i) (boxed a) b (H .0) (N .0) (omega arith))
+      visited q t = rw (← t) (internal-visit i (length rest) (nodeOf (s .tree) i) (boxed a) b (H .0) (N .0) (omega arith))
 
       internal-in : passes r b ≡ true → Walks u → Walks v → Walked
       unfolding boxed
       internal-in t U W =
-          let j = leftOf (nodeOf s i) in
-          let k = rightOf (nodeOf s i) in
+          let j = leftOf i (nodeOf (s .tree) i) in
+          let k = rightOf i (nodeOf (s .tree) i) in
           let n = (1 + 2 * entered r u) + (1 + 2 * entered r v) in
           let f : more s r n (reached r u ++ reached r v) (boxed a) ≡ more s r (1 + 2 * entered r (internal b u v)) (reached r u ++ reached r v) a = rw t (tally _ _ _ _ _ _ (omega arith) refl refl) in
           let later' = 1 + 2 * entered r u + (1 + 2 * entered r v + later) in
@@ -171,13 +174,13 @@ pub short : (r : Ray) (t : Tree) → 1 + 2 * entered r t ≤ size t
 short r (leaf b p c) = omega arith
 short r (internal b u v) = go (passes r b) (short r u) (short r v)
   where
-    go : (q : Bool) → 1 + 2 * entered r u ≤ size u → 1 + 2 * entered r v ≤ size v → 1 + 2 * (cond q 1 0 + (entered r u + entered r v)) ≤ 1 + (size u + size v)
+    go : (q : Bool) → 1 + 2 * entered r u ≤ size u → 1 + 2 * entered r v ≤ size v → 1 + 2 * (cond q 1 0 + (entered r u + entered r v)) ≤ size (internal b u v)
     go true h k = omega arith
     go false h k = omega arith
 
-pub accepted : (s : Lent) (t : Tree) (r : Ray) → Accepted s t → T (admittedRay r) → walk s r ≡ foundIn s r t
-accepted s t r A R =
-    let n = nodeCount (s .links) in
+pub walked : (s : Lent) (t : Tree) (r : Ray) → Walkable s t → T (admittedRay r) → walk s r ≡ foundIn s r t
+walked s t r A R =
+    let n = nodeCount (s .tree .links) in
     let left = n - (1 + 2 * entered r t) in
     sym (walk-entered s r (A .whole) (A .few) (is-true (admittedRay r) R) (A .fitted))
     ∙ tree-walks s r (A .entries) (A .admitted) R t 0 [] n left start (A .holds) (A .nested) (omega (arith, A .shallow)) (omega (arith, A .sized, short r t))
@@ -185,5 +188,5 @@ accepted s t r A R =
     ∙ rw (zero-add (1 + 2 * entered r t), zero-add (length (reached r t)))
 
 -- at most one triangle test for each triangle
-pub few-tests : (s : Lent) (t : Tree) (r : Ray) → Accepted s t → length (reached r t) ≤ triangleCount (s .triangles)
+pub few-tests : (s : Lent) (t : Tree) (r : Ray) → Walkable s t → length (reached r t) ≤ triangleCount (s .mesh .triangles)
 few-tests s t r A = omega (arith, A .covers, A .one-each, reached-most r t)

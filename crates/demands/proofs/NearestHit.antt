@@ -25,13 +25,18 @@ use Rattle.triangle.specs.declared.Distance.the-variants.{To, None}
 use Rattle.triangle.specs.Mesh.{triangleAt}
 use Rattle.triangle.specs.Meeting.{distance, hitAt, found, strike}
 use Rattle.triangle.proofs.Finite.{strike-finite}
 use Rattle.walk.specs.declared.tally.Nearest.{Nearest}
 use Rattle.walk.specs.declared.tally.Nearest.the-variants.{Unmet, Met}
-use Rattle.walk.specs.Lent.{Lent}
+use Rattle.tree.specs.Lent.{Mesh, Lent}
 use Rattle.walk.specs.Walk.{replaces as replaces-by, nearer as nearer-by, after, hitOf, over, walk}
-use Rattle.walk.specs.Tree.{Tree, leaf, internal, Holds, Accepted, places, reached, nearest as nearest-of}
-use Rattle.walk.proofs.Accepting.{accepted}
-use Rattle.walk.specs.NearestHit.{All, Some, Admitted, finds, Ahead, NearestAt, NothingAt}
+use Rattle.tree.specs.Tree.{Tree, leaf, internal}
+use Rattle.tree.specs.Holds.{Holds}
+use Rattle.tree.specs.Accepted.{Walkable}
+use Rattle.tree.specs.Leaves.{rangeOf}
+use Rattle.demands.specs.Reached.{reached, nearest as nearest-of}
+use Rattle.demands.proofs.Walking.{walked}
+use Rattle.lent.specs.Members.{Every, Some}
+use Rattle.demands.specs.NearestHit.{Admitted, finds, Ahead, NearestAt, NothingAt}
 
 -- ---- with the whole hit carried, where the walk carries its t and its number
 abbrev bare : Found → Nearest
@@ -49,27 +54,27 @@ abbrev nearest : Lent → Ray → Found → List ℕ → Found
 nearest s r best [] = best
 nearest s r best (p ∷ ps) = nearest s r (nearer best (finds s r p)) ps
 
-same-replaces : (mesh : List Float) (r : Ray) (b : Nearest) (k : ℕ) (t : Float) → replaces (hitOf mesh r b) (hitAt r (triangleAt mesh k) k t) ≡ replaces-by b k t
+same-replaces : (m : Mesh) (r : Ray) (b : Nearest) (k : ℕ) (t : Float) → replaces (hitOf m r b) (hitAt r (triangleAt (m .triangles) k) k t) ≡ replaces-by b k t
 unfolding hitOf hitAt
-same-replaces mesh r Unmet k t = refl
-same-replaces mesh r (Met u j) k t = refl
+same-replaces m r Unmet k t = refl
+same-replaces m r (Met u j) k t = refl
 
-same-cond : (mesh : List Float) (r : Ray) (q : Bool) (a b : Nearest) → hitOf mesh r (cond q a b) ≡ cond q (hitOf mesh r a) (hitOf mesh r b)
-same-cond mesh r true a b = refl
-same-cond mesh r false a b = refl
+same-cond : (m : Mesh) (r : Ray) (q : Bool) (a b : Nearest) → hitOf m r (cond q a b) ≡ cond q (hitOf m r a) (hitOf m r b)
+same-cond m r true a b = refl
+same-cond m r false a b = refl
 
-same-nearer : (mesh : List Float) (r : Ray) (b : Nearest) (k : ℕ) (d : Distance) → hitOf mesh r (nearer-by b k d) ≡ nearer (hitOf mesh r b) (found r (triangleAt mesh k) k d)
+same-nearer : (m : Mesh) (r : Ray) (b : Nearest) (k : ℕ) (d : Distance) → hitOf m r (nearer-by b k d) ≡ nearer (hitOf m r b) (found r (triangleAt (m .triangles) k) k d)
 unfolding nearer-by nearer found
-same-nearer mesh r b k None = refl
-same-nearer mesh r b k (To t) = same-cond mesh r (replaces-by b k t) (Met t k) b ∙ rw (same-replaces mesh r b k t) (unfold hitOf in refl)
+same-nearer m r b k None = refl
+same-nearer m r b k (To t) = same-cond m r (replaces-by b k t) (Met t k) b ∙ rw (same-replaces m r b k t) (unfold hitOf in refl)
 
-same-nearest : (s : Lent) (r : Ray) (ps : List ℕ) (b : Nearest) → hitOf (s .triangles) r (nearest-of s r b ps) ≡ nearest s r (hitOf (s .triangles) r b) ps
+same-nearest : (s : Lent) (r : Ray) (ps : List ℕ) (b : Nearest) → hitOf (s .mesh) r (nearest-of s r b ps) ≡ nearest s r (hitOf (s .mesh) r b) ps
 unfolding after strike
 same-nearest s r [] b = refl
 same-nearest s r (p ∷ ps) b =
-    let k = getD (s .index) p 0 in
-    same-nearest s r ps (after (s .triangles) r k b)
-    ∙ ap (λ (f : Found). nearest s r f ps) (same-nearer (s .triangles) r b k (distance r (triangleAt (s .triangles) k)))
+    let k = getD (s .tree .index) p 0 in
+    same-nearest s r ps (after (s .mesh .triangles) r k b)
+    ∙ ap (λ (f : Found). nearest s r f ps) (same-nearer (s .mesh) r b k (distance r (triangleAt (s .mesh .triangles) k)))
 
 -- ---- the order of hits
 earlier-ahead : (h g : Hit) → T (lt (h .t) (g .t)) → Ahead h g
@@ -130,7 +135,7 @@ module _ (s : Lent) (r : Ray) where
   record Made (best : Found) (ps : List ℕ) (h : Hit) : Type 0 where
     from : (best ≡ At h) ⊎ Some (λ (p : ℕ). finds s r p ≡ At h) ps
     no-worse : NoWorse h best
-    ahead : All (Behind h) ps
+    ahead : Every (Behind h) ps
 
   no-worse-trans : (best : Found) (x h : Hit) → Ahead h x → NoWorse x best → NoWorse h best
   no-worse-trans Nothing x h a b = tt
@@ -185,7 +190,7 @@ module _ (s : Lent) (r : Ray) where
       go true l n = new-best best p ps x h e (replacing best x l) (k (At x) (finite-real (x .t) (w x e)) n)
       go false l n = kept best refl l b n
 
-  made : (ps : List ℕ) (best : Found) (h : Hit) → Real best → All Finite ps → nearest s r best ps ≡ At h → Made best ps h
+  made : (ps : List ℕ) (best : Found) (h : Hit) → Real best → Every Finite ps → nearest s r best ps ≡ At h → Made best ps h
   made [] best h b a e = record { from = inl e; no-worse = itself best h b e; ahead = tt }
     where
       itself : (best : Found) (h : Hit) → Real best → best ≡ At h → NoWorse h best
@@ -193,7 +198,7 @@ module _ (s : Lent) (r : Ray) where
       itself (At y) h b e = let i : y ≡ h = cc in rw (← i) ((le-refl (y .t) b, λ l. omega arith))
   made (p ∷ ps) best h b a e = step best p ps h (finds s r p) refl b (a .0) (λ c d. made ps c h d (a .1)) e
 
-  clear : (ps : List ℕ) (best : Found) → All Finite ps → nearest s r best ps ≡ Nothing → (best ≡ Nothing) × All (NothingAt s r) ps
+  clear : (ps : List ℕ) (best : Found) → Every Finite ps → nearest s r best ps ≡ Nothing → (best ≡ Nothing) × Every (NothingAt s r) ps
   unfolding nearer
   clear [] best a e = (e, tt)
   clear (p ∷ ps) best a e = go (finds s r p) refl (clear ps (nearer best (finds s r p)) (a .1) e)
@@ -202,20 +207,20 @@ module _ (s : Lent) (r : Ray) where
       not-new true x l i e = nowhere (sym e)
       not-new false x l i e = first-replaces x (a .0 x i) (ap (λ (f : Found). replaces f x) (sym e) ∙ l)
 
-      go : (f : Found) → finds s r p ≡ f → (nearer best f ≡ Nothing) × All (NothingAt s r) ps → (best ≡ Nothing) × All (NothingAt s r) (p ∷ ps)
+      go : (f : Found) → finds s r p ≡ f → (nearer best f ≡ Nothing) × Every (NothingAt s r) ps → (best ≡ Nothing) × Every (NothingAt s r) (p ∷ ps)
       go Nothing i w = (w .0, (i, w .1))
       go (At x) i w = absurd (not-new (replaces best x) x refl i (w .0))
 
   -- ---- from no hit on
   abbrev pub hitAmong : List ℕ → Found
-  hitAmong ps = hitOf (s .triangles) r (nearest-of s r Unmet ps)
+  hitAmong ps = hitOf (s .mesh) r (nearest-of s r Unmet ps)
 
   carried : (ps : List ℕ) → nearest s r Nothing ps ≡ hitAmong ps
   unfolding hitOf
   carried ps = sym (same-nearest s r ps Unmet)
 
   -- a hit is the nearest of those at the places, the lowest triangle number winning a tie
-  pub nearest-at : (ps : List ℕ) → All Finite ps → (h : Hit) → hitAmong ps ≡ At h → NearestAt s r ps h
+  pub nearest-at : (ps : List ℕ) → Every Finite ps → (h : Hit) → hitAmong ps ≡ At h → NearestAt s r ps h
   nearest-at ps a h e = let m = made ps Nothing h tt a (carried ps ∙ e) in record { found = go (m .from); ahead = m .ahead }
     where
       go : (Nothing ≡ At h) ⊎ Some (λ (p : ℕ). finds s r p ≡ At h) ps → Some (λ (p : ℕ). finds s r p ≡ At h) ps
@@ -223,49 +228,49 @@ module _ (s : Lent) (r : Ray) where
       go (inr i) = i
 
   -- where there is none, nothing is found at any of them
-  pub nothing-at : (ps : List ℕ) → All Finite ps → hitAmong ps ≡ Nothing → All (NothingAt s r) ps
+  pub nothing-at : (ps : List ℕ) → Every Finite ps → hitAmong ps ≡ Nothing → Every (NothingAt s r) ps
   nothing-at ps a e = clear ps Nothing a (carried ps ∙ e) .1
 
 -- ---- the places that a ray reaches
-all-append : (P : ℕ → Type 0) (ps qs : List ℕ) → All P ps → All P qs → All P (ps ++ qs)
+all-append : (P : ℕ → Type 0) (ps qs : List ℕ) → Every P ps → Every P qs → Every P (ps ++ qs)
 all-append P [] qs a b = b
 all-append P (p ∷ ps) qs a b = (a .0, all-append P ps qs (a .1) b)
 
-all-map : {P Q : ℕ → Type 0} → ((p : ℕ) → P p → Q p) → (ps : List ℕ) → All P ps → All Q ps
+all-map : {P Q : ℕ → Type 0} → ((p : ℕ) → P p → Q p) → (ps : List ℕ) → Every P ps → Every Q ps
 all-map f [] a = tt
 all-map f (p ∷ ps) a = (f p (a .0), all-map f ps (a .1))
 
-all-places : (n c p : ℕ) → p + c ≤ n → All (λ q. q < n) (places c p)
-all-places n zero p h = tt
-all-places n (suc c) p h = (omega arith, all-places n c (suc p) (omega arith))
+all-range : (n c p : ℕ) → p + c ≤ n → Every (λ q. q < n) (rangeOf c p)
+all-range n zero p h = tt
+all-range n (suc c) p h = (omega arith, all-range n c (suc p) (omega arith))
 
-all-cond : (P : ℕ → Type 0) (q : Bool) (ps : List ℕ) → All P ps → All P (cond q ps [])
+all-cond : (P : ℕ → Type 0) (q : Bool) (ps : List ℕ) → Every P ps → Every P (cond q ps [])
 all-cond P true ps a = a
 all-cond P false ps a = tt
 
-in-index : (s : Lent) (r : Ray) (t : Tree) (i : ℕ) → Holds s i t → All (λ p. p < length (s .index)) (reached r t)
-in-index s r (leaf b p c) i H = all-cond _ (passes r b) (places c p) (all-places (length (s .index)) c p (H .inside))
+in-index : (s : Lent) (r : Ray) (t : Tree) (i : ℕ) → Holds (s .tree) i t → Every (λ p. p < length (s .tree .index)) (reached r t)
+in-index s r (leaf b p c) i H = all-cond _ (passes r b) (rangeOf c p) (all-range (length (s .tree .index)) c p (H .inside))
 in-index s r (internal b u v) i H = all-append _ (reached r u) (reached r v) (in-index s r u _ (H .1)) (in-index s r v _ (H .2))
 
-pub all-finite : (s : Lent) (r : Ray) → T (admittedRay r) → (ps : List ℕ) → All (Admitted s) ps → All (Finite s r) ps
-all-finite s r R ps a = all-map (λ p h g e. let k = getD (s .index) p 0 in strike-finite r (triangleAt (s .triangles) k) R h k g e) ps a
+pub all-finite : (s : Lent) (r : Ray) → T (admittedRay r) → (ps : List ℕ) → Every (Admitted s) ps → Every (Finite s r) ps
+all-finite s r R ps a = all-map (λ p h g e. let k = getD (s .tree .index) p 0 in strike-finite r (triangleAt (s .mesh .triangles) k) R h k g e) ps a
 
 -- ---- the theorems, of an accepted tree
-module _ (s : Lent) (t : Tree) (r : Ray) (A : Accepted s t) (R : T (admittedRay r)) where
-  pub reached-admitted : All (Admitted s) (reached r t)
-  reached-admitted = all-map (λ p h. A .admitted (getD (s .index) p 0) (A .entries p h)) (reached r t) (in-index s r t 0 (A .holds))
+module _ (s : Lent) (t : Tree) (r : Ray) (A : Walkable s t) (R : T (admittedRay r)) where
+  pub reached-admitted : Every (Admitted s) (reached r t)
+  reached-admitted = all-map (λ p h. A .admitted (getD (s .tree .index) p 0) (A .entries p h)) (reached r t) (in-index s r t 0 (A .holds))
 
-  reached-finite : All (Finite s r) (reached r t)
+  reached-finite : Every (Finite s r) (reached r t)
   reached-finite = all-finite s r R (reached r t) reached-admitted
 
   pub walk-hit : walk s r .hit ≡ hitAmong s r (reached r t)
   unfolding over
-  walk-hit = ap (λ w. w .hit) (accepted s t r A R)
+  walk-hit = ap (λ w. w .hit) (walked s t r A R)
 
   -- the hit is the nearest of those at the places that are reached, the lowest triangle number winning a tie
   pub walk-nearest : (h : Hit) → walk s r .hit ≡ At h → NearestAt s r (reached r t) h
   walk-nearest h e = nearest-at s r (reached r t) reached-finite h (sym walk-hit ∙ e)
 
   -- where there is none, nothing is found at any of them
-  pub walk-clear : walk s r .hit ≡ Nothing → All (NothingAt s r) (reached r t)
+  pub walk-clear : walk s r .hit ≡ Nothing → Every (NothingAt s r) (reached r t)
   walk-clear e = nothing-at s r (reached r t) reached-finite (sym walk-hit ∙ e)
