@@ -80,10 +80,6 @@ module _ (b o : Aabb) (p : Clear b) (q : Clear o) where
   union-right =
       and-i (allAtMost (least (b .min) (o .min)) (o .min)) (allAtMost (o .max) (greatest (b .max) (o .max))) (least-right (b .min) (o .min) (p .low) (q .low)) (greatest-right (b .max) (o .max) (p .high) (q .high))
 
-  pub union-numbers : Clear (union b o)
-  unfolding union
-  union-numbers = record { low = least-all real (b .min) (o .min) (p .low) (q .low); high = greatest-all real (b .max) (o .max) (p .high) (q .high) }
-
 -- the parts of `bounded`
 pub record Bounded (b : Aabb) : Type 0 where
   pub low : T (allWithin two-to-40 (b .min))

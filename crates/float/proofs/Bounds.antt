@@ -156,11 +156,3 @@ inverse-most′ (fin t n d) p h =
 
 pub inverse-most : (d : Float) → T (finite d) → T (le trillionth (magnitude d)) → AtMost 40 (div binary64 one d)
 inverse-most d p h = rw one-is (inverse-most′ d p (rw trillionth-is at h))
-
--- ---- the distance to a plane is finite
-pub reach-finite : (o d p : Float) → T (le (magnitude o) two-to-40) → T (le (magnitude p) two-to-40) → T (finite d) → T (le trillionth (magnitude d)) → T (finite (mul binary64 (sub binary64 p o) (div binary64 one d)))
-unfolding round
-reach-finite o d p O P D h =
-    let x = sub binary64 p o in
-    let y = div binary64 one d in
-    power-finite (mul binary64 x y) 81 (mul-most 41 40 81 refl x y (sub-size p o P O) (inverse-most d D h))
