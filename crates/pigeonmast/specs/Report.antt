@@ -18,6 +18,11 @@ use Rattle.walk.specs.declared.rays.Filled.{Filled}
 use Rattle.walk.specs.declared.rays.Filled.the-variants.{Places, Refused as Unfilled}
 use Rattle.walk.specs.Sky.{Outcome as Filling}
 
+-- ---- pigeonmast_abi
+-- the number of the calls' form, PIGEONMAST_ABI of the C header
+abbrev pub abi : ℕ
+abi = 1
+
 -- ---- what passes as numbers
 -- a ray: origin, direction
 unfoldable pub rayOf : List Float → Ray
