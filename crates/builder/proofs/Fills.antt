@@ -11,7 +11,8 @@ use lib.Seq.{take-all, take-suc-set}
 use lib.Ieee.{Float}
 use Rattle.triangle.specs.Mesh.{admittedTriangle, triangleAt}
 use Rattle.builder.specs.declared.start.Found.the-variants.{At, Nothing}
-use Rattle.builder.specs.Build.{firstRefused, room, upTo}
+use Rattle.lent.specs.Permutation.{upTo}
+use Rattle.builder.specs.Build.{firstRefused, room}
 
 -- ---- the room
 pub room-none : (n : ℕ) → n ≡ 0 → 1 ≡ room n

@@ -15,7 +15,7 @@ use Rattle.builder.specs.Partition.{swapped}
 use Rattle.builder.proofs.Linear.{Linear}
 use Rattle.builder.proofs.Parting.{length-swap}
 use Rattle.lent.proofs.Permutation.{each-perm, occ-append, perm-swap}
-use Rattle.builder.proofs.Perm.{not-self}
+use Rattle.builder.proofs.Sorting.{not-self}
 
 -- ---- an exchange, place by place
 module _ (xs : List ℕ) (a b : ℕ) (ha : a < length xs) (hb : b < length xs) (ne : a ≡ b → ⊥) where

@@ -9,7 +9,7 @@ ghost use lib.ListN.{length, getD, set, replicate};
 ghost use Rattle.float.specs.Number.{infinity};
 ghost use Rattle.aabb.specs.Vector.{along};
 ghost use Rattle.aabb.specs.Bounds.{union, boxAt};
-ghost use Rattle.builder.specs.Tree.{most-triangles};
+ghost use Rattle.lent.specs.Limits.{most-triangles};
 ghost use Rattle.lent.specs.Permutation.{occ};
 ghost use Rattle.builder.specs.Layout.{boxPut};
 ghost use Rattle.builder.specs.Bins.{whole, noBin, joinBins, binOf, filled};

@@ -15,8 +15,10 @@ use start::Found;
 ghost use mathlib.Core.Path.{_≡_};
 ghost use Prim.Native.Nat.{_+_, _*_, _/_, _≤_, _-_};
 ghost use lib.ListN.{length};
-ghost use Rattle.builder.specs.Tree.{most-triangles, deepest, grow};
-ghost use Rattle.builder.specs.Build.{upTo, outcome, finished, built};
+ghost use Rattle.lent.specs.Limits.{most-triangles, deepest};
+ghost use Rattle.builder.specs.Tree.{grow};
+ghost use Rattle.lent.specs.Permutation.{upTo};
+ghost use Rattle.builder.specs.Build.{outcome, finished, built};
 
 // What a build answers: the tree's node count and leaf count, or document 01's refusal number and its `at`.
 pub enum Built {

@@ -6,7 +6,7 @@ ghost use Prim.Native.Nat.{ℕ, _+_, _*_, _≤_, _<_};
 ghost use lib.ListN.{length, getD};
 ghost use lib.Ieee.{Float};
 ghost use Rattle.triangle.specs.Mesh.{centroidAt};
-ghost use Rattle.builder.specs.Tree.{most-triangles};
+ghost use Rattle.lent.specs.Limits.{most-triangles};
 ghost use Rattle.builder.specs.Fallback.{ahead, ordered};
 ghost use Rattle.lent.specs.Permutation.{Perm};
 ghost use Rattle.builder.specs.Heap.{HeapFrom, Greater};

@@ -7,7 +7,7 @@ use triangle::Triangle;
 ghost use mathlib.Core.Path.{_≡_};
 ghost use Prim.Native.Nat.{ℕ, _+_, _/_, _≤_, _<_};
 ghost use lib.ListN.{length};
-ghost use Rattle.builder.specs.Tree.{most-triangles};
+ghost use Rattle.lent.specs.Limits.{most-triangles};
 ghost use Rattle.builder.specs.Range.{nodeBox, centroidBox};
 ghost use Rattle.lent.specs.Permutation.{occ};
 ghost use Rattle.aabb.specs.Vector.{vectorAt};

@@ -3,8 +3,9 @@ ghost use mathlib.Core.Path.{_≡_};
 ghost use Prim.Native.Nat.{_≤_};
 ghost use lib.ListN.{length, replicate};
 ghost use Rattle.float.specs.Number.{nought};
-ghost use Rattle.builder.specs.Tree.{most-triangles};
-ghost use Rattle.builder.specs.Build.{upTo, room, firstRefused};
+ghost use Rattle.lent.specs.Limits.{most-triangles};
+ghost use Rattle.lent.specs.Permutation.{upTo};
+ghost use Rattle.builder.specs.Build.{room, firstRefused};
 
 pub const MOST_TRIANGLES: usize = 65536;
 

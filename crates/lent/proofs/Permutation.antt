@@ -6,11 +6,11 @@ use native.Mathlib.Decide.{ℕ-discrete}
 use mathlib.Core.Logic.{_⊎_, inl, inr, ⊎-elim}
 use mathlib.Core.Bool.{Bool, true, false, cond}
 use mathlib.Core.List.{List, [], _∷_, _++_}
-use lib.ListN.{length, getD, set, length-set}
+use lib.ListN.{length, getD, set, length-set, length-append}
 use lib.Seq.{getD-set-same, getD-set-other}
 use lib.Dec.{eqb}
 use borrow.Author.Tests.{eq-eqb, eqb-true}
-use Rattle.lent.specs.Permutation.{Perm, occurs, occ}
+use Rattle.lent.specs.Permutation.{Perm, occurs, occ, upTo}
 
 -- ---- how often a number stands in a list
 pub occurs-same : (v : ℕ) → occurs v v ≡ 1
@@ -61,3 +61,16 @@ each P (x ∷ xs) f v h = ⊎-elim (λ p. subst⁻¹ P p (f 0 (omega arith))) (�
 
 pub each-perm : (P : ℕ → Type 0) (xs ys : List ℕ) → Perm xs ys → ((i : ℕ) → i < length ys → P (getD ys i 0)) → (i : ℕ) → i < length xs → P (getD xs i 0)
 each-perm P xs ys e f i h = each P ys f (getD xs i 0) (omega (arith, occ-at xs i h, e (getD xs i 0)))
+
+-- ---- 0, 1, .., n - 1
+pub up-length : (n : ℕ) → length (upTo n) ≡ n
+unfolding upTo
+up-length zero = refl
+up-length (suc n) = omega (arith, up-length n, length-append (upTo n) (n ∷ []))
+
+pub up-below : (n v : ℕ) → 0 < occ v (upTo n) → v < n
+unfolding upTo
+up-below zero v h = absurd (omega arith)
+up-below (suc n) v h =
+    let e = occ-append v (upTo n) (n ∷ []) in
+    ⊎-elim (λ p. omega arith) (λ p. let o : 0 < occ v (upTo n) = omega arith in let l = up-below n v o in omega arith) (occurs-cases v n)

@@ -2,3 +2,4 @@ pub mod Limits
 pub mod Ladder
 pub mod Flat
 pub mod Permutation
+pub mod Members

@@ -1,8 +1,8 @@
 -- Lists with the same numbers in them. Definitions only.
-use Prim.Native.Nat.{ℕ, _+_}
+use Prim.Native.Nat.{ℕ, zero, suc, _+_}
 use mathlib.Core.Path.{_≡_}
 use mathlib.Core.Bool.{cond}
-use mathlib.Core.List.{List, [], _∷_}
+use mathlib.Core.List.{List, [], _∷_, _++_}
 use lib.Dec.{eqb}
 
 -- how often a number stands in a list
@@ -16,3 +16,8 @@ occ v (x ∷ xs) = occurs v x + occ v xs
 -- the same numbers, each as often
 abbrev pub Perm : List ℕ → List ℕ → Type 0
 Perm xs ys = (v : ℕ) → occ v xs ≡ occ v ys
+
+-- 0, 1, .., n - 1
+unfoldable pub upTo : ℕ → List ℕ
+upTo zero = []
+upTo (suc n) = upTo n ++ (n ∷ [])

@@ -5,7 +5,7 @@ use native.Mathlib.Omega.{arith}
 use lib.ListN.{length, getD}
 use Rattle.triangle.specs.Mesh.{triangleAt}
 use Rattle.builder.specs.Lanes.{Lanes}
-use Rattle.builder.specs.Tree.{most-triangles}
+use Rattle.lent.specs.Limits.{most-triangles}
 use Rattle.builder.proofs.Lanes.{lanes-up}
 use Rattle.builder.proofs.Passes.{bounds-by, centroid-by}
 use Rattle.lent.proofs.Permutation.{occ-at}

@@ -11,7 +11,7 @@ use Rattle.builder.specs.Heap.{HeapFrom}
 use Rattle.builder.proofs.Heaps.{Sifted, heap-none, lent, sifted-end, sifted-start, turned}
 use Rattle.builder.proofs.Linear.{linear-ahead}
 use Rattle.builder.proofs.Parting.{length-swap}
-use Rattle.builder.proofs.Perm.{in-order-is}
+use Rattle.builder.proofs.Sorting.{in-order-is}
 use borrow.Author.Needs.{needs}
 use Rattle.builder.proofs.ordering.put_in_order.Statement.{statement}
 use Rattle.builder.proofs.ordering.put_in_order.Tie as tie

@@ -1,4 +1,4 @@
--- Of the lists with the same numbers there is one in order, the sort by insertion. Assumes nothing.
+-- Of the lists with the same numbers one is in order: the sort by insertion. Assumes nothing.
 use mathlib.Core.Path.{_≡_, refl, sym, _∙_, ap, subst⁻¹}
 use Prim.Native.Nat.{ℕ, zero, suc, _+_, _<_}
 use native.Mathlib.Omega.{arith}
@@ -6,19 +6,10 @@ use mathlib.Core.Logic.{_⊎_, inl, inr, ⊎-elim}
 use mathlib.Core.Bool.{Bool, true, false}
 use mathlib.Core.List.{List, [], _∷_}
 use lib.ListN.{length, getD}
-use Rattle.builder.specs.Build.{upTo}
-use Rattle.builder.specs.Fallback.{insert, sorted}
 use Rattle.lent.specs.Permutation.{Perm, occurs, occ}
+use Rattle.lent.proofs.Permutation.{each, occurs-cases, occurs-same}
+use Rattle.builder.specs.Fallback.{insert, sorted}
 use Rattle.builder.proofs.Linear.{Linear}
-use Rattle.lent.proofs.Permutation.{occurs-same, occurs-cases, occ-append, each}
-
--- the numbers below n
-pub up-below : (n v : ℕ) → 0 < occ v (upTo n) → v < n
-unfolding upTo
-up-below zero v h = absurd (omega arith)
-up-below (suc n) v h =
-    let e = occ-append v (upTo n) (n ∷ []) in
-    ⊎-elim (λ p. omega arith) (λ p. let o : 0 < occ v (upTo n) = omega arith in let l = up-below n v o in omega arith) (occurs-cases v n)
 
 -- ---- lists in order
 module _ (less : ℕ → ℕ → Bool) (lin : Linear less) where
