@@ -5,10 +5,12 @@ use native.Mathlib.Omega.{arith}
 use native.Mathlib.Nat.{add-zero}
 use mathlib.Core.Logic.{_⊎_, inl, inr, ⊎-elim}
 use mathlib.Core.List.{List}
-use lib.ListN.{length, getD, set, replicate, length-set, length-replicate}
+use lib.ListN.{length, getD, set, replicate, length-set, length-replicate, getD-replicate}
 use lib.Seq.{getD-set-same, getD-set-other}
-use lib.Ieee.{Float}
+use lib.Ieee.{Float, nan, neg}
+use Rattle.float.specs.Number.{infinity}
 use Rattle.float.proofs.Cases.{low-or-high, same?}
+use Rattle.aabb.specs.Vector.{vectorAt}
 use Rattle.aabb.specs.Bounds.{Clear, boxAt, emptyBox, joined, union}
 use Rattle.aabb.proofs.Running.{clear-as, empty-clear, joined-is, union-clear}
 use Rattle.aabb.specs.declared.bounds.Aabb.{Aabb}
@@ -16,7 +18,7 @@ use Rattle.builder.specs.declared.bins.Bin.{Bin}
 use Rattle.builder.specs.Bins.{blank, noBin, withBox}
 use Rattle.builder.specs.Layout.{boxPut}
 use Rattle.builder.specs.Lanes.{binAt, lane, Lanes, Vacant}
-use Rattle.builder.proofs.Placing.{box-here, box-numbers, box-other, box-length}
+use Rattle.builder.proofs.Placing.{box-here, box-numbers, box-other, box-length, second, third}
 
 up : (n j : ℕ) → suc n + j ≡ n + suc j
 up n j = omega arith
@@ -123,16 +125,73 @@ module _ (bs bs′ : List Float) (cs cs′ : List ℕ) (k : ℕ) (b : Aabb) (m :
 pub lanes-up : (n n′ : ℕ) (bs : List Float) (cs : List ℕ) → n ≤ n′ → Lanes n bs cs → Lanes n′ bs cs
 lanes-up n n′ bs cs h l = record { boxes-long = l .boxes-long; counts-long = l .counts-long; clear = l .clear; most = λ k. omega (arith, l .most k) }
 
--- ---- the first k boxes emptied
+-- ---- the first k boxes emptied, of a list that was +inf everywhere
 pub record Emptied (bs : List Float) (k : ℕ) : Type 0 where
   pub long : length bs ≡ 288
   pub done : (j : ℕ) → j < k → boxAt bs j ≡ emptyBox
+  pub rest : (p : ℕ) → k * 6 ≤ p → p < 288 → getD bs p nan ≡ infinity
 
-pub emptied-next : (bs bs′ : List Float) (b : Aabb) (k : ℕ) → b ≡ emptyBox → bs′ ≡ boxPut bs k b → k < 48 → Emptied bs k → Emptied bs′ (k + 1)
-emptied-next bs bs′ b k e p h v = record {
-  long = ap length p ∙ box-length bs k b ∙ v .long;
-  done = λ j g. ap (λ (z : List Float). boxAt z j) p ∙ ⊎-elim (λ s. ap (boxAt (boxPut bs k b)) s ∙ box-here bs k b (omega (arith, v .long)) ∙ e) (λ n. box-apart bs k b j n ∙ v .done j (omega arith)) (same? j k);
+pub emptied-start : (bs : List Float) → bs ≡ replicate 288 infinity → Emptied bs 0
+emptied-start bs e = record {
+  long = ap length e ∙ length-replicate 288 infinity;
+  done = λ j h. absurd (omega arith);
+  rest = λ p g h. at p h;
 }
+  where
+    at : (p : ℕ) → p < 288 → getD bs p nan ≡ infinity
+    at p h = ap (λ (z : List Float). getD z p nan) e ∙ getD-replicate 288 p infinity nan h
+
+module _ (bs : List Float) (far : Float) (k : ℕ) (e : far ≡ neg infinity) (h : k < 48) (v : Emptied bs k) where
+  abbrev t₁ : List Float
+  t₁ = set bs (k * 6 + 3) far
+
+  abbrev t₂ : List Float
+  t₂ = set t₁ (k * 6 + 4) far
+
+  abbrev t₃ : List Float
+  t₃ = set t₂ (k * 6 + 5) far
+
+  away : (p : ℕ) → (p < k * 6 + 3) ⊎ (k * 6 + 6 ≤ p) → getD t₃ p nan ≡ getD bs p nan
+  away p w =
+      getD-set-other t₂ (k * 6 + 5) p far nan (λ s. ⊎-elim (λ u. omega arith) (λ u. omega arith) w)
+      ∙ getD-set-other t₁ (k * 6 + 4) p far nan (λ s. ⊎-elim (λ u. omega arith) (λ u. omega arith) w)
+      ∙ getD-set-other bs (k * 6 + 3) p far nan (λ s. ⊎-elim (λ u. omega arith) (λ u. omega arith) w)
+
+  low-inf : (p : ℕ) → k * 6 ≤ p → p < k * 6 + 3 → getD t₃ p nan ≡ infinity
+  low-inf p g w = away p (inl w) ∙ v .rest p g (omega arith)
+
+  far₃ : getD t₃ (k * 6 + 3) nan ≡ neg infinity
+  far₃ =
+      getD-set-other t₂ (k * 6 + 5) (k * 6 + 3) far nan (λ s. omega arith) ∙ getD-set-other t₁ (k * 6 + 4) (k * 6 + 3) far nan (λ s. omega arith)
+      ∙ getD-set-same bs (k * 6 + 3) far nan (omega (arith, v .long)) ∙ e
+
+  far₄ : getD t₃ (k * 6 + 4) nan ≡ neg infinity
+  far₄ = getD-set-other t₂ (k * 6 + 5) (k * 6 + 4) far nan (λ s. omega arith) ∙ getD-set-same t₁ (k * 6 + 4) far nan (simp length-set (omega (arith, v .long))) ∙ e
+
+  far₅ : getD t₃ (k * 6 + 5) nan ≡ neg infinity
+  far₅ = getD-set-same t₂ (k * 6 + 5) far nan (simp length-set (omega (arith, v .long))) ∙ e
+
+  emptied-here : boxAt t₃ k ≡ emptyBox
+  unfolding boxAt vectorAt emptyBox
+  emptied-here =
+      rw (
+        low-inf (k * 6) (omega arith) (omega arith),
+        low-inf (k * 6 + 1) (omega arith) (omega arith),
+        low-inf (k * 6 + 2) (omega arith) (omega arith),
+        far₃,
+        ap (λ (p : ℕ). getD t₃ p nan) (second k) ∙ far₄,
+        ap (λ (p : ℕ). getD t₃ p nan) (third k) ∙ far₅,
+      )
+
+  pub emptied-next : Emptied t₃ (k + 1)
+  emptied-next = record {
+    long = simp length-set (v .long);
+    done = λ j g. ⊎-elim (λ s. ap (boxAt t₃) s ∙ emptied-here) (λ n. box-numbers bs t₃ j (λ p a z. away p (inl (before j n g p z))) ∙ v .done j (omega arith)) (same? j k);
+    rest = λ p a z. away p (inr (omega arith)) ∙ v .rest p (omega arith) z;
+  }
+    where
+      before : (j : ℕ) → (j ≡ k → ⊥) → j < k + 1 → (p : ℕ) → p < j * 6 + 6 → p < k * 6 + 3
+      before j n g p z = let l : j < k = omega arith in omega arith
 
 no-counts : (n k : ℕ) → getD (replicate {A = ℕ} n 0) k 0 ≤ 0
 no-counts zero k = omega arith

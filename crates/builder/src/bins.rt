@@ -6,6 +6,7 @@ use aabb::Vec3;
 ghost use mathlib.Core.Path.{_≡_};
 ghost use Prim.Native.Nat.{ℕ, _+_, _*_, _/_, _≤_, _<_};
 ghost use lib.ListN.{length, getD, set, replicate};
+ghost use Rattle.float.specs.Number.{infinity};
 ghost use Rattle.aabb.specs.Vector.{along};
 ghost use Rattle.aabb.specs.Bounds.{Clear, union, boxAt};
 ghost use Rattle.lent.specs.Limits.{most-triangles};
@@ -73,8 +74,8 @@ pub fn bin_of(x: f64) -> usize
 }
 
 // Bin k of the lent bins, six numbers of box each and a count.
-pub fn bin_at(boxes: &[f64], counts: &[u32], k: usize) -> Bin
-    requires { ⌜ k < length (now counts) ⌝ }
+pub fn bin_at(boxes: &[f64; 288], counts: &[u32; 48], k: usize) -> Bin
+    requires { ⌜ (k < 48) × (length (now counts) ≡ 48) ⌝ }
     ensures { λ r. ⌜ r ≡ binAt (now (boxes .entry)) (now (counts .entry)) k ⌝ }
 {
     let bounds = Aabb::read(boxes, k);
@@ -84,20 +85,23 @@ pub fn bin_at(boxes: &[f64], counts: &[u32], k: usize) -> Bin
     }
 }
 
-// Each of the 48 boxes becomes the empty box.
-pub fn vacate(boxes: &mut [f64])
-    requires { ⌜ length (now boxes) ≡ 288 ⌝ }
+// Boxes that hold +inf everywhere become the empty box, each: only half of the numbers is written again.
+pub fn vacate(boxes: &mut [f64; 288])
+    requires { ⌜ now boxes ≡ replicate 288 infinity ⌝ }
     ensures { λ _. ⌜ Vacant (now (boxes .exit)) (replicate 48 0) ⌝ }
 {
+    let far = -float::infinity();
     let mut k: usize = 0;
     while k < 48 {
-        nodes::put_box(boxes, k, Aabb::empty());
+        boxes[k * 6 + 3] = far;
+        boxes[k * 6 + 4] = far;
+        boxes[k * 6 + 5] = far;
         k += 1;
     }
 }
 
 // One triangle more in bin k, whose box is given.
-pub fn put(boxes: &mut [f64], counts: &mut [u32], k: usize, b: Aabb)
+pub fn put(boxes: &mut [f64; 288], counts: &mut [u32; 48], k: usize, b: Aabb)
     requires { ⌜ (k < 48) × Lanes most-triangles (now boxes) (now counts) ⌝ }
     ensures { λ _. ⌜ now (boxes .exit) ≡ boxPut (now (boxes .entry)) k (union (boxAt (now (boxes .entry)) k) b) ⌝ }
     ensures { λ _. ⌜ now (counts .exit) ≡ set (now (counts .entry)) k (getD (now (counts .entry)) k 0 + 1) ⌝ }
@@ -113,8 +117,8 @@ pub fn fill(
     index: &[u32],
     min: Vec3,
     scale: Vec3,
-    boxes: &mut [f64],
-    counts: &mut [u32],
+    boxes: &mut [f64; 288],
+    counts: &mut [u32; 48],
 )
     requires { ⌜ ((v : ℕ) → 0 < occ v (now index) → v < length (now triangles) / 12) ⌝ }
     requires { ⌜ (length (now index) ≤ most-triangles) × Vacant (now boxes) (now counts) ⌝ }

@@ -10,7 +10,7 @@ use Rattle.builder.proofs.bins.bin_at.Tie as tie
 
 returns : tie.Need-returns
 unfolding binAt
-returns c = let a = c .before .before .before .before .args in ap {B = Bin} (λ (z : Aabb). record { count = getD (a .counts .now) (a .k) 0; bounds = z }) (c .before .read .ensures)
+returns c = let a = c .before .before .before .args in ap {B = Bin} (λ (z : Aabb). record { count = getD (a .counts .now) (a .k) 0; bounds = z }) (c .before .read .ensures)
 
 pub bin-at-spec : {M : Type 1} → statement M
 bin-at-spec = tie.close (tie.spec (λ c κs. search needs) (λ c. search needs) (λ c. search needs) returns)

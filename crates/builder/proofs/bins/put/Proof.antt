@@ -8,12 +8,12 @@ use Rattle.builder.proofs.bins.put.Statement.{statement}
 use Rattle.builder.proofs.bins.put.Tie as tie
 
 add-counts : tie.Need-add-counts
-add-counts c = let s = c .before .before .before .before .before .before .before .before .before .before in omega (arith, s .pre .1 .most (s .args .k))
+add-counts c = let s = c .before .before .before .before .before .before .before in omega (arith, s .pre .1 .most (s .args .k))
 
 returns : tie.Need-returns
 returns c =
-    let s = c .before .before .before .before .before .before .before .before .before .before in
-    (union-put most-triangles (s .args .boxes .now) _ (s .args .counts .now) (s .args .k) (s .args .b) _ _ (s .pre .0) (s .pre .1) (c .before .before .before .before .before .before .read .ensures) (c .before .before .before .before .joined .ensures) (c .before .before .before .put-box .ensures), refl)
+    let s = c .before .before .before .before .before .before .before in
+    (union-put most-triangles (s .args .boxes .now) _ (s .args .counts .now) (s .args .k) (s .args .b) _ _ (s .pre .0) (s .pre .1) (c .before .before .before .before .read .ensures) (c .before .before .joined .ensures) (c .before .put-box .ensures), refl)
 
 pub put-spec : {M : Type 1} → statement M
 put-spec =
@@ -22,5 +22,5 @@ put-spec =
     (λ c κs. search needs) (λ c κs. search needs) (λ c κs. search needs)
     (λ c. search needs) (λ c. search needs)
     add-counts
-    (λ c. search needs) (λ c. search needs) (λ c. search needs)
+    (λ c. search needs)
     returns)

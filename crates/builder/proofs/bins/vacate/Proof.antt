@@ -1,27 +1,61 @@
--- The first k boxes are empty. Assumes nothing.
-use mathlib.Core.Path.{_≡_, subst}
+-- The first k boxes are empty, and the rest as they were. Assumes nothing.
+use mathlib.Core.Path.{_≡_, ap, subst}
 use Prim.Native.Nat.{ℕ, _-_, _≤_}
 use native.Mathlib.Omega.{arith}
-use lib.ListN.{length}
-use Rattle.builder.proofs.Lanes.{Emptied, emptied-next, emptied-end}
+use lib.Ieee.{neg}
+use Rattle.float.specs.Number.{infinity}
+use Rattle.builder.proofs.Lanes.{Emptied, emptied-start, emptied-next, emptied-end}
 use borrow.Author.Needs.{needs}
 use Rattle.builder.proofs.bins.vacate.Statement.{statement}
 use Rattle.builder.proofs.bins.vacate.Tie as tie
 
 abbrev Inv-loop : tie.InvT-loop
-Inv-loop boxes₀ k₀ boxes k = (k ≤ 48) × Emptied boxes k × (length boxes₀ ≡ 288)
+Inv-loop boxes₀ far k₀ boxes k = (k ≤ 48) × Emptied boxes k × (far ≡ neg infinity)
 
 abbrev μ-loop : tie.MeasureT-loop
-μ-loop boxes₀ k₀ boxes k = 48 - k
+μ-loop boxes₀ far k₀ boxes k = 48 - k
+
+infinity-requires : tie.Need-infinity-requires Inv-loop μ-loop
+infinity-requires c κs = search needs
 
 loop-holds : tie.Need-loop-holds Inv-loop μ-loop
-loop-holds c = (search needs, record { long = c .before .pre; done = λ j h. absurd (omega arith) }, c .before .pre)
+loop-holds c = let e = emptied-start _ (c .before .pre) in (search needs, e, ap neg (c .infinity .ensures))
 
-empty-requires : tie.Need-empty-requires Inv-loop μ-loop
-empty-requires c κs = search needs
+mul-boxes : tie.Need-mul-boxes Inv-loop μ-loop
+mul-boxes c = search needs
 
-put-box-requires : tie.Need-put-box-requires Inv-loop μ-loop
-put-box-requires c κs = omega (arith, c .before .before .loop-test .taken, c .before .before .before .loop .inv .1 .long)
+add-boxes : tie.Need-add-boxes Inv-loop μ-loop
+add-boxes c = search needs
+
+mul-boxes-2 : tie.Need-mul-boxes-2 Inv-loop μ-loop
+mul-boxes-2 c = search needs
+
+element-write-boxes : tie.Need-element-write-boxes Inv-loop μ-loop
+element-write-boxes c = omega (arith, c .loop-test .taken, c .before .loop .inv .1 .long)
+
+mul-boxes-3 : tie.Need-mul-boxes-3 Inv-loop μ-loop
+mul-boxes-3 c = search needs
+
+add-boxes-2 : tie.Need-add-boxes-2 Inv-loop μ-loop
+add-boxes-2 c = search needs
+
+mul-boxes-4 : tie.Need-mul-boxes-4 Inv-loop μ-loop
+mul-boxes-4 c = search needs
+
+element-write-boxes-2 : tie.Need-element-write-boxes-2 Inv-loop μ-loop
+element-write-boxes-2 c = omega (arith, c .loop-test .taken, c .before .loop .inv .1 .long)
+
+mul-boxes-5 : tie.Need-mul-boxes-5 Inv-loop μ-loop
+mul-boxes-5 c = search needs
+
+add-boxes-3 : tie.Need-add-boxes-3 Inv-loop μ-loop
+add-boxes-3 c = search needs
+
+mul-boxes-6 : tie.Need-mul-boxes-6 Inv-loop μ-loop
+mul-boxes-6 c = search needs
+
+element-write-boxes-3 : tie.Need-element-write-boxes-3 Inv-loop μ-loop
+element-write-boxes-3 c = omega (arith, c .loop-test .taken, c .before .loop .inv .1 .long)
 
 add-k : tie.Need-add-k Inv-loop μ-loop
 add-k c = search needs
@@ -31,12 +65,8 @@ loop-less c = search needs
 
 loop-again : tie.Need-loop-again Inv-loop μ-loop
 loop-again c =
-    let l = c .before .before .before .before .before .before .loop in
-    let h = c .before .before .before .before .before .loop-test .taken in
-    (omega (arith, h), emptied-next (l .boxes) _ _ (l .k) (c .before .before .before .empty .ensures) (c .before .before .put-box .ensures) h (l .inv .1), l .inv .2)
-
-same-length : tie.Need-same-length Inv-loop μ-loop
-same-length c = omega (arith, c .before .loop .inv .1 .long, c .before .loop .inv .2)
+    let l = c .before .loop in
+    (omega (arith, c .loop-test .taken), emptied-next (l .boxes) _ (l .k) (l .inv .2) (c .loop-test .taken) (l .inv .1), l .inv .2)
 
 returns : tie.Need-returns Inv-loop μ-loop
 returns c =
@@ -50,11 +80,21 @@ vacate-spec =
     (tie.spec
     Inv-loop
     μ-loop
+    infinity-requires
     loop-holds
-    empty-requires
-    put-box-requires
+    mul-boxes
+    add-boxes
+    mul-boxes-2
+    element-write-boxes
+    mul-boxes-3
+    add-boxes-2
+    mul-boxes-4
+    element-write-boxes-2
+    mul-boxes-5
+    add-boxes-3
+    mul-boxes-6
+    element-write-boxes-3
     add-k
     loop-less
     loop-again
-    same-length
     returns)
