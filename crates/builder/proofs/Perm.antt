@@ -12,24 +12,24 @@ use borrow.Author.Tests.{eq-eqb, eqb-true}
 use Rattle.float.proofs.Cases.{same?}
 use Rattle.builder.specs.Build.{upTo}
 use Rattle.builder.specs.Fallback.{insert, sorted}
-use Rattle.builder.specs.Heap.{Perm, hit, occ}
+use Rattle.builder.specs.Heap.{Perm, once, occ}
 use Rattle.builder.specs.Partition.{swapped}
 use Rattle.builder.proofs.Linear.{Linear}
 
 -- ---- how often a number stands in a list
-pub hit-same : (v : ℕ) → hit v v ≡ 1
-unfolding hit
-hit-same v = rw (eq-eqb v v refl)
+pub once-same : (v : ℕ) → once v v ≡ 1
+unfolding once
+once-same v = rw (eq-eqb v v refl)
 
-pub hit-cases : (v x : ℕ) → (v ≡ x) ⊎ (hit v x ≡ 0)
-unfolding hit
-hit-cases v x = go (eqb v x) refl
+pub once-cases : (v x : ℕ) → (v ≡ x) ⊎ (once v x ≡ 0)
+unfolding once
+once-cases v x = go (eqb v x) refl
   where
     go : (t : Bool) → eqb v x ≡ t → (v ≡ x) ⊎ (_≡_ {A = ℕ} (cond t 1 0) 0)
     go true p = inl (eqb-true v x p)
     go false p = inr refl
 
-occ-set : (v : ℕ) (xs : List ℕ) (i a : ℕ) → i < length xs → occ v (set xs i a) + hit v (getD xs i 0) ≡ occ v xs + hit v a
+occ-set : (v : ℕ) (xs : List ℕ) (i a : ℕ) → i < length xs → occ v (set xs i a) + once v (getD xs i 0) ≡ occ v xs + once v a
 occ-set v [] i a h = absurd (omega arith)
 occ-set v (x ∷ xs) zero a h = omega arith
 occ-set v (x ∷ xs) (suc i) a h = omega (arith, occ-set v xs i a (omega arith))
@@ -45,7 +45,7 @@ pub perm-swap : (xs : List ℕ) (a b : ℕ) → a < length xs → b < length xs 
 perm-swap xs a b ha hb v =
     let p = occ-set v xs a (getD xs b 0) ha in
     let q = occ-set v (set xs a (getD xs b 0)) b (getD xs a 0) (omega (arith, length-set xs a (getD xs b 0))) in
-    let r = ap (λ (z : ℕ). hit v z) (after-set xs a b ha) in
+    let r = ap (λ (z : ℕ). once v z) (after-set xs a b ha) in
     omega arith
 
 pub occ-append : (v : ℕ) (xs ys : List ℕ) → occ v (xs ++ ys) ≡ occ v xs + occ v ys
@@ -55,7 +55,7 @@ occ-append v (x ∷ xs) ys = omega (arith, occ-append v xs ys)
 -- ---- what holds of each number of a list
 pub occ-at : (xs : List ℕ) (i : ℕ) → i < length xs → 0 < occ (getD xs i 0) xs
 occ-at [] i h = absurd (omega arith)
-occ-at (x ∷ xs) zero h = omega (arith, hit-same x)
+occ-at (x ∷ xs) zero h = omega (arith, once-same x)
 occ-at (x ∷ xs) (suc i) h = omega (arith, occ-at xs i (omega arith))
 
 -- the numbers below n
@@ -64,11 +64,11 @@ unfolding upTo
 up-below zero v h = absurd (omega arith)
 up-below (suc n) v h =
     let e = occ-append v (upTo n) (n ∷ []) in
-    ⊎-elim (λ p. omega arith) (λ p. let o : 0 < occ v (upTo n) = omega arith in let l = up-below n v o in omega arith) (hit-cases v n)
+    ⊎-elim (λ p. omega arith) (λ p. let o : 0 < occ v (upTo n) = omega arith in let l = up-below n v o in omega arith) (once-cases v n)
 
 pub each : (P : ℕ → Type 0) (xs : List ℕ) → ((i : ℕ) → i < length xs → P (getD xs i 0)) → (v : ℕ) → 0 < occ v xs → P v
 each P [] f v h = absurd (omega arith)
-each P (x ∷ xs) f v h = ⊎-elim (λ p. subst⁻¹ P p (f 0 (omega arith))) (λ n. each P xs (λ i l. f (suc i) (omega arith)) v (omega arith)) (hit-cases v x)
+each P (x ∷ xs) f v h = ⊎-elim (λ p. subst⁻¹ P p (f 0 (omega arith))) (λ n. each P xs (λ i l. f (suc i) (omega arith)) v (omega arith)) (once-cases v x)
 
 pub each-perm : (P : ℕ → Type 0) (xs ys : List ℕ) → Perm xs ys → ((i : ℕ) → i < length ys → P (getD ys i 0)) → (i : ℕ) → i < length xs → P (getD xs i 0)
 each-perm P xs ys e f i h = each P ys f (getD xs i 0) (omega (arith, occ-at xs i h, e (getD xs i 0)))
@@ -97,21 +97,21 @@ module _ (less : ℕ → ℕ → Bool) (lin : Linear less) where
     up-of xs (λ i j l h. f (suc i) (suc j) (omega arith) (omega arith)),
   )
 
-  low-head : (x : ℕ) (xs : List ℕ) → ((v : ℕ) → 0 < occ v xs → less v x ≡ false) → (v : ℕ) → 0 < hit v x + occ v xs → less v x ≡ false
-  low-head x xs f v h = go (hit-cases v x)
+  low-head : (x : ℕ) (xs : List ℕ) → ((v : ℕ) → 0 < occ v xs → less v x ≡ false) → (v : ℕ) → 0 < once v x + occ v xs → less v x ≡ false
+  low-head x xs f v h = go (once-cases v x)
     where
-      go : (v ≡ x) ⊎ (hit v x ≡ 0) → less v x ≡ false
+      go : (v ≡ x) ⊎ (once v x ≡ 0) → less v x ≡ false
       go (inl p) = ap (λ (z : ℕ). less z x) p ∙ not-self x
       go (inr n) = f v (omega arith)
 
   pub one-order : (xs ys : List ℕ) → Up xs → Up ys → Perm xs ys → xs ≡ ys
   unfolding Up
   one-order [] [] p q e = refl
-  one-order [] (y ∷ ys) p q e = absurd (omega (arith, e y, hit-same y))
-  one-order (x ∷ xs) [] p q e = absurd (omega (arith, e x, hit-same x))
+  one-order [] (y ∷ ys) p q e = absurd (omega (arith, e y, once-same y))
+  one-order (x ∷ xs) [] p q e = absurd (omega (arith, e x, once-same x))
   one-order (x ∷ xs) (y ∷ ys) p q e =
-      let s : x ≡ y = lin .same x y (low-head y ys (q .0) x (omega (arith, e x, hit-same x))) (low-head x xs (p .0) y (omega (arith, e y, hit-same y))) in
-      ap (λ (z : ℕ). z ∷ xs) s ∙ ap (λ (z : List ℕ). y ∷ z) (one-order xs ys (p .1) (q .1) (λ v. omega (arith, e v, ap (λ (z : ℕ). hit v z) s)))
+      let s : x ≡ y = lin .same x y (low-head y ys (q .0) x (omega (arith, e x, once-same x))) (low-head x xs (p .0) y (omega (arith, e y, once-same y))) in
+      ap (λ (z : ℕ). z ∷ xs) s ∙ ap (λ (z : List ℕ). y ∷ z) (one-order xs ys (p .1) (q .1) (λ v. omega (arith, e v, ap (λ (z : ℕ). once v z) s)))
 
   -- ---- the sort by insertion
   insert-true : (x y : ℕ) (ys : List ℕ) → less y x ≡ true → insert less x (y ∷ ys) ≡ y ∷ insert less x ys
@@ -129,10 +129,10 @@ module _ (less : ℕ → ℕ → Bool) (lin : Linear less) where
       go true p = subst⁻¹ P (insert-true x y ys p) (f p)
       go false p = subst⁻¹ P (insert-false x y ys p) (g p)
 
-  insert-occ : (v x : ℕ) (ys : List ℕ) → occ v (insert less x ys) ≡ hit v x + occ v ys
+  insert-occ : (v x : ℕ) (ys : List ℕ) → occ v (insert less x ys) ≡ once v x + occ v ys
   unfolding insert
   insert-occ v x [] = refl
-  insert-occ v x (y ∷ ys) = insert-by (λ (l : List ℕ). occ v l ≡ hit v x + (hit v y + occ v ys)) x y ys (λ p. omega (arith, insert-occ v x ys)) (λ p. refl)
+  insert-occ v x (y ∷ ys) = insert-by (λ (l : List ℕ). occ v l ≡ once v x + (once v y + occ v ys)) x y ys (λ p. omega (arith, insert-occ v x ys)) (λ p. refl)
 
   insert-up : (x : ℕ) (ys : List ℕ) → Up ys → Up (insert less x ys)
   unfolding insert Up
@@ -142,16 +142,16 @@ module _ (less : ℕ → ℕ → Bool) (lin : Linear less) where
       (λ p. (λ v h. first p v (omega (arith, insert-occ v x ys)), insert-up x ys (u .1)))
       (λ p. (λ v h. second p v h, u))
     where
-      first : less y x ≡ true → (v : ℕ) → 0 < hit v x + occ v ys → less v y ≡ false
-      first p v h = ⊎-elim (λ e. ap (λ (z : ℕ). less z y) e ∙ lin .turn y x p) (λ n. u .0 v (omega arith)) (hit-cases v x)
+      first : less y x ≡ true → (v : ℕ) → 0 < once v x + occ v ys → less v y ≡ false
+      first p v h = ⊎-elim (λ e. ap (λ (z : ℕ). less z y) e ∙ lin .turn y x p) (λ n. u .0 v (omega arith)) (once-cases v x)
 
-      second : less y x ≡ false → (v : ℕ) → 0 < hit v y + occ v ys → less v x ≡ false
-      second p v h = ⊎-elim (λ e. ap (λ (z : ℕ). less z x) e ∙ p) (λ n. lin .chain v y x (u .0 v (omega arith)) p) (hit-cases v y)
+      second : less y x ≡ false → (v : ℕ) → 0 < once v y + occ v ys → less v x ≡ false
+      second p v h = ⊎-elim (λ e. ap (λ (z : ℕ). less z x) e ∙ p) (λ n. lin .chain v y x (u .0 v (omega arith)) p) (once-cases v y)
 
   pub sorted-occ : (xs : List ℕ) → Perm (sorted less xs) xs
   unfolding sorted
   sorted-occ [] v = refl
-  sorted-occ (x ∷ xs) v = insert-occ v x (sorted less xs) ∙ ap (λ (n : ℕ). hit v x + n) (sorted-occ xs v)
+  sorted-occ (x ∷ xs) v = insert-occ v x (sorted less xs) ∙ ap (λ (n : ℕ). once v x + n) (sorted-occ xs v)
 
   sorted-up : (xs : List ℕ) → Up (sorted less xs)
   unfolding sorted Up

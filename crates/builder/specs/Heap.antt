@@ -5,14 +5,19 @@ use mathlib.Core.Bool.{Bool, false, cond}
 use mathlib.Core.List.{List, [], _∷_}
 use lib.ListN.{length, getD}
 use lib.Dec.{eqb}
+use lib.Ieee.{Float}
 
--- how often a number stands in a list
-unfoldable pub hit : ℕ → ℕ → ℕ
-hit v x = cond (eqb v x) 1 0
+-- how often a number stands in a list: once for each place that has it
+unfoldable pub once : ℕ → ℕ → ℕ
+once v x = cond (eqb v x) 1 0
 
 abbrev pub occ : ℕ → List ℕ → ℕ
 occ v [] = 0
-occ v (x ∷ xs) = hit v x + occ v xs
+occ v (x ∷ xs) = once v x + occ v xs
+
+-- each number of a list is that of a triangle of the mesh
+abbrev pub Numbered : List Float → List ℕ → Type 0
+Numbered mesh ids = (v : ℕ) → 0 < occ v ids → v < length mesh / 12
 
 -- the same numbers, each as often
 abbrev pub Perm : List ℕ → List ℕ → Type 0
