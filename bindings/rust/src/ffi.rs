@@ -49,4 +49,10 @@ extern "C" {
     pub fn pigeonmast_slab(bounds: *const f64, ray: *const f64, times: *mut f64) -> u32;
 
     pub fn pigeonmast_triangle(triangle: *const f64, ray: *const f64, numbers: *mut f64) -> u32;
+
+    pub fn pigeonmast_root(x: f64) -> f64;
+
+    pub fn pigeonmast_new(corners: *const f64, triangle: *mut f64);
+
+    pub fn pigeonmast_normals(triangles: *mut f64, triangles_len: usize, told: *mut u64) -> u32;
 }

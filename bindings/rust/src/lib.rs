@@ -36,7 +36,9 @@
 //!
 //! [`Bvh::sky`] walks many rays in one call.
 //!
-//! [`raw`] has the five calls of the library as they stand, over lent slices.
+//! [`Triangle::new`] works a normal out, [`refill_normals`] those of a whole mesh.
+//!
+//! [`raw`] has the calls of the library as they stand, over lent slices.
 
 #![deny(missing_docs)]
 
@@ -51,5 +53,5 @@ mod vector;
 pub use aabb::{ray_aabb_slab_test, Aabb};
 pub use bvh::{build_bvh, Bvh, BvhNode, Place, Walk};
 pub use refusal::Refusal;
-pub use triangle::{HitRecord, Triangle};
+pub use triangle::{refill_normals, HitRecord, Triangle};
 pub use vector::{Ray, Vec3};
