@@ -38,12 +38,14 @@ impl Vec3 {
         )
     }
 
-    // `Triangle::new` needs the two below to compile. Document 01 leaves that
-    // call out, so nothing here runs them.
+    // `Triangle::new` calls the two below: the squared length is the dot with
+    // itself, as document 02's A6 has it.
+    #[inline]
     pub fn norm_squared(&self) -> f64 {
         self.dot(self)
     }
 
+    #[inline]
     pub fn normalize(&self) -> Self {
         *self / self.norm_squared().sqrt()
     }
