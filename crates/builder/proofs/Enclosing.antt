@@ -15,9 +15,9 @@ use Rattle.aabb.specs.Vector.{allAtMost, along, greatest, least}
 use Rattle.aabb.specs.declared.bounds.Aabb.{Aabb}
 use Rattle.triangle.proofs.Holds.{bounds-bounded}
 use Rattle.triangle.specs.Mesh.{admittedTriangle, boundsAt, triangleAt}
-use Rattle.builder.specs.Heap.{occ}
+use Rattle.lent.specs.Permutation.{occ}
 use Rattle.builder.specs.Range.{boxFrom, nodeBox}
-use Rattle.builder.proofs.Perm.{hit-cases, hit-same}
+use Rattle.lent.proofs.Permutation.{occurs-cases, occurs-same}
 use lib.Ieee.Fits.{and-l, and-r, and-i}
 
 contains-refl : (b : Aabb) → T (bounded b) → T (contains b b)
@@ -45,7 +45,7 @@ module _ (m : List Float) where
   at-bounded v A = bounds-bounded (triangleAt m v) A
 
   head-bounded : (i : ℕ) (is : List ℕ) → Admitted (i ∷ is) → T (bounded (boundsAt m i))
-  head-bounded i is A = at-bounded i (A i (omega (arith, hit-same i)))
+  head-bounded i is A = at-bounded i (A i (omega (arith, occurs-same i)))
 
   tail-admitted : (i : ℕ) (is : List ℕ) → Admitted (i ∷ is) → Admitted is
   tail-admitted i is A v h = A v (omega arith)
@@ -75,12 +75,12 @@ module _ (m : List Float) where
       (contains-trans (boxFrom m (union b (boundsAt m i)) is) (union b (boundsAt m i)) (boundsAt m i)
       (from-first (union b (boundsAt m i)) is u (tail-admitted i is A))
       (union-right b (boundsAt m i) (bounded-numbers b h) (bounded-numbers (boundsAt m i) k))))
-      (λ n. from-each (union b (boundsAt m i)) is u (tail-admitted i is A) v (omega arith)) (hit-cases v i)
+      (λ n. from-each (union b (boundsAt m i)) is u (tail-admitted i is A) v (omega arith)) (occurs-cases v i)
 
   from-least : (c b : Aabb) (ids : List ℕ) → T (contains c b) → ((v : ℕ) → 0 < occ v ids → T (contains c (boundsAt m v))) → T (contains c (boxFrom m b ids))
   unfolding boxFrom
   from-least c b [] h f = h
-  from-least c b (i ∷ is) h f = from-least c (union b (boundsAt m i)) is (union-within c b (boundsAt m i) h (f i (omega (arith, hit-same i)))) (λ v o. f v (omega arith))
+  from-least c b (i ∷ is) h f = from-least c (union b (boundsAt m i)) is (union-within c b (boundsAt m i) h (f i (omega (arith, occurs-same i)))) (λ v o. f v (omega arith))
 
   -- ---- the box of a node
   node-cons : (i : ℕ) (is : List ℕ) → Admitted (i ∷ is) → nodeBox m (i ∷ is) ≡ boxFrom m (boundsAt m i) is
@@ -96,12 +96,12 @@ module _ (m : List Float) where
   node-each (i ∷ is) A v o =
       subst⁻¹ (λ (z : Aabb). T (contains z (boundsAt m v))) (node-cons i is A)
       (⊎-elim (λ e. subst⁻¹ (λ (z : ℕ). T (contains (boxFrom m (boundsAt m i) is) (boundsAt m z))) e (from-first (boundsAt m i) is (head-bounded i is A) (tail-admitted i is A)))
-      (λ n. from-each (boundsAt m i) is (head-bounded i is A) (tail-admitted i is A) v (omega arith)) (hit-cases v i))
+      (λ n. from-each (boundsAt m i) is (head-bounded i is A) (tail-admitted i is A) v (omega arith)) (occurs-cases v i))
 
   node-least : (c : Aabb) (ids : List ℕ) → 0 < length ids → Admitted ids → ((v : ℕ) → 0 < occ v ids → T (contains c (boundsAt m v))) → T (contains c (nodeBox m ids))
   node-least c [] h A f = absurd (omega arith)
   node-least c (i ∷ is) h A f =
-      subst⁻¹ (λ (z : Aabb). T (contains c z)) (node-cons i is A) (from-least c (boundsAt m i) is (f i (omega (arith, hit-same i))) (λ v o. f v (omega arith)))
+      subst⁻¹ (λ (z : Aabb). T (contains c z)) (node-cons i is A) (from-least c (boundsAt m i) is (f i (omega (arith, occurs-same i))) (λ v o. f v (omega arith)))
 
   -- a range whose numbers are all among those of another has its box in the other's
   pub node-inside : (ids ys : List ℕ) → Admitted ids → 0 < length ys → ((v : ℕ) → 0 < occ v ys → 0 < occ v ids) → T (contains (nodeBox m ids) (nodeBox m ys))

@@ -6,7 +6,8 @@ use native.Mathlib.Numerals.{add-one}
 use mathlib.Core.List.{List, [], _∷_, _++_}
 use lib.ListN.{length, set, take, replicate, replicate-append-replicate}
 use lib.Seq.{take-all, take-suc-set}
-use Rattle.builder.specs.Build.{room, upTo}
+use Rattle.lent.specs.Permutation.{upTo}
+use Rattle.builder.specs.Build.{room}
 
 -- ---- the room
 pub room-none : (n : ℕ) → n ≡ 0 → 1 ≡ room n

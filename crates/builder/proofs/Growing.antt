@@ -24,10 +24,12 @@ use Rattle.builder.specs.Fallback.{ahead, ordered, separated, settled}
 use Rattle.builder.specs.Layout.{Divided, Laid, boxPut, boxesOf, linkPut, linksOf}
 use Rattle.builder.specs.Partition.{Parted, parted, parts}
 use Rattle.builder.specs.Range.{centroidBox, nodeBox}
-use Rattle.builder.specs.Tree.{Grown, below, decision, fork, grow, grownAs, joined, leaf, leafOf, most-nodes, most-triangles}
+use Rattle.lent.specs.Limits.{most-nodes, most-triangles}
+use Rattle.tree.specs.Tree.{below, internal, leaf}
+use Rattle.builder.specs.Tree.{Grown, decision, grow, grownAs, joined, leafOf}
 use Rattle.builder.proofs.Linear.{linear-ahead}
 use Rattle.builder.proofs.Parting.{parted-at, parted-length}
-use Rattle.builder.proofs.Perm.{sorted-length}
+use Rattle.builder.proofs.Sorting.{sorted-length}
 use Rattle.builder.proofs.Choosing.{splits-four as not-few}
 
 -- ---- the fallback order
@@ -209,7 +211,7 @@ module _ (xs l : List ℕ) (k : ℕ) (h : k ≤ length xs) (e : length l ≡ len
       ∙ ap (λ (z : List ℕ). l ++ (r ++ z)) (drop-of-length-le (drop k (l ++ drop (k - 0) xs)) {i = length (l ++ drop (k - 0) xs) - k} (omega (arith, rest-length)))
       ∙ ap (λ (z : List ℕ). l ++ z) (append-nil r)
 
--- ---- two halves laid out make the fork laid out
+-- ---- two halves laid out make the internal laid out
 pub never : (n : ℕ) → Next n ≡ Deep → ⊥
 never n e = let z : _≡_ {A = ℕ} 0 1 = cc in omega arith
 
@@ -218,7 +220,7 @@ next-same n k e = cc
 
 fork-laid : (b : Aabb) (l r : Grown) (node next then : ℕ) (bs bs₂ bs₃ : List Float) (ls ls₂ ls₃ : List ℕ) (a : Made) (i₁ i₂ : List ℕ)
     → Laid l next (next + 2) (boxPut bs node b) (linkPut ls node next 0 0) (Next then) i₁ bs₂ ls₂ → Laid r (next + 1) then bs₂ ls₂ a i₂ bs₃ ls₃
-    → Laid (grownAs (fork b (l .tree) (r .tree)) (l .ids ++ r .ids)) node next bs ls a (i₁ ++ i₂) bs₃ ls₃
+    → Laid (grownAs (internal b (l .tree) (r .tree)) (l .ids ++ r .ids)) node next bs ls a (i₁ ++ i₂) bs₃ ls₃
 unfolding boxesOf linksOf
 fork-laid b l r node next then bs bs₂ bs₃ ls ls₂ ls₃ a i₁ i₂ p q =
     let t : then ≡ next + 2 + below (l .tree) = next-same then (next + 2 + below (l .tree)) (p .answer) in

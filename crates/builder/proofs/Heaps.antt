@@ -9,11 +9,13 @@ use mathlib.Core.List.{List, _++_}
 use lib.ListN.{length, getD, set, take, drop, length-set, length-drop, length-append, List·getD-append, take-append-drop}
 use lib.Seq.{getD-set-same, getD-set-other, getD-take, getD-drop, length-take-le, getD-append-add}
 use Rattle.float.proofs.Cases.{low-or-high, same?}
-use Rattle.builder.specs.Heap.{Greater, HeapFrom, Perm, occ, parent}
+use Rattle.lent.specs.Permutation.{Perm, occ}
+use Rattle.builder.specs.Heap.{Greater, HeapFrom, parent}
 use Rattle.builder.specs.Partition.{swapped}
 use Rattle.builder.proofs.Linear.{Linear}
 use Rattle.builder.proofs.Parting.{length-swap}
-use Rattle.builder.proofs.Perm.{each-perm, not-self, occ-append, perm-swap}
+use Rattle.lent.proofs.Permutation.{each-perm, occ-append, perm-swap}
+use Rattle.builder.proofs.Sorting.{not-self}
 
 -- ---- an exchange, place by place
 module _ (xs : List ℕ) (a b : ℕ) (ha : a < length xs) (hb : b < length xs) (ne : a ≡ b → ⊥) where

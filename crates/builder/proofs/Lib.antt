@@ -8,13 +8,16 @@ pub mod Choosing
 pub mod Sweeping
 pub mod Parting
 pub mod Linear
-pub mod Perm
+pub mod Sorting
 pub mod Heaps
 pub mod Growing
 pub mod Fills
 pub mod Whole
 pub mod Rest
 pub mod Enclosing
+pub mod InOrder
 pub mod Placing
 pub mod Trees
+pub mod Vertices
 pub mod Successes
+pub mod Depth

@@ -12,8 +12,12 @@ use Rattle.aabb.specs.Bounds.{boxAt}
 use Rattle.aabb.specs.Vector.{vectorAt}
 use Rattle.aabb.specs.declared.bounds.Aabb.{Aabb}
 use Rattle.builder.specs.Layout.{boxPut, boxesOf, linkPut, linksOf}
-use Rattle.builder.specs.Lists.{ChildOf, Holds, OnlyChild, Runs, countAt, firstAt, kindAt, size}
-use Rattle.builder.specs.Tree.{Tree, below, fork, leaf}
+use Rattle.tree.specs.Lent.{Lists, listsOf}
+use Rattle.tree.specs.Node.{linked, nodeAt, leftOf, rightOf}
+use Rattle.tree.specs.Holds.{Holds, ChildOf, OnlyChild}
+use Rattle.builder.specs.Runs.{Runs}
+use Rattle.builder.proofs.InOrder.{runs-up}
+use Rattle.tree.specs.Tree.{Tree, below, size, internal, leaf}
 
 -- ---- the second and the third number of a box's upper corner
 pub second : (n : ℕ) → n * 6 + 3 + 1 ≡ n * 6 + 4
@@ -21,6 +25,16 @@ second n = omega arith
 
 pub third : (n : ℕ) → n * 6 + 3 + 2 ≡ n * 6 + 5
 third n = omega arith
+
+-- ---- the links of a node
+abbrev pub firstAt : List ℕ → ℕ → ℕ
+firstAt links i = getD links (i * 3) 0
+
+abbrev pub countAt : List ℕ → ℕ → ℕ
+countAt links i = getD links (i * 3 + 1) 0
+
+abbrev pub kindAt : List ℕ → ℕ → ℕ
+kindAt links i = getD links (i * 3 + 2) 0
 
 -- ---- a node, written and read
 pub record NodeIs (bs : List Float) (ls : List ℕ) (i : ℕ) (b : Aabb) (f c k : ℕ) : Type 0 where
@@ -173,13 +187,13 @@ link-length ls n f c k = simp length-set
 pub boxes-length : (t : Tree) (node next : ℕ) (bs : List Float) → length (boxesOf t node next bs) ≡ length bs
 unfolding boxesOf
 boxes-length (leaf b f c) node next bs = box-length bs node b
-boxes-length (fork b l r) node next bs =
+boxes-length (internal b l r) node next bs =
     boxes-length r (next + 1) (next + 2 + below l) (boxesOf l next (next + 2) (boxPut bs node b)) ∙ boxes-length l next (next + 2) (boxPut bs node b) ∙ box-length bs node b
 
 pub links-length : (t : Tree) (node next : ℕ) (ls : List ℕ) → length (linksOf t node next ls) ≡ length ls
 unfolding linksOf
 links-length (leaf b f c) node next ls = link-length ls node f c 1
-links-length (fork b l r) node next ls =
+links-length (internal b l r) node next ls =
     links-length r (next + 1) (next + 2 + below l) (linksOf l next (next + 2) (linkPut ls node next 0 0)) ∙ links-length l next (next + 2) (linkPut ls node next 0 0) ∙ link-length ls node next 0 0
 
 -- ---- the nodes of a tree whose root is at node and whose others are from next on
@@ -190,16 +204,16 @@ abbrev Apart : ℕ → ℕ → Tree → ℕ → Type 0
 Apart node next t j = ((j < node) ⊎ (node < j)) × ((j < next) ⊎ (next + below t ≤ j))
 
 module _ (b : Aabb) (l r : Tree) (node next j : ℕ) where
-  of-left : Of next (next + 2) l j → Of node next (fork b l r) j
+  of-left : Of next (next + 2) l j → Of node next (internal b l r) j
   of-left w = ⊎-elim (λ e. inr (omega arith, omega arith)) (λ q. let x = q .0 in let y = q .1 in inr (omega arith, omega arith)) w
 
-  of-right : Of (next + 1) (next + 2 + below l) r j → Of node next (fork b l r) j
+  of-right : Of (next + 1) (next + 2 + below l) r j → Of node next (internal b l r) j
   of-right w = ⊎-elim (λ e. inr (omega arith, omega arith)) (λ q. let x = q .0 in let y = q .1 in inr (omega arith, omega arith)) w
 
-  apart-left : node < next → Apart node next (fork b l r) j → Apart next (next + 2) l j
+  apart-left : node < next → Apart node next (internal b l r) j → Apart next (next + 2) l j
   apart-left h w = (⊎-elim (λ u. inl u) (λ u. inr (omega arith)) (w .1), ⊎-elim (λ u. inl (omega arith)) (λ u. inr (omega arith)) (w .1))
 
-  apart-right : node < next → Apart node next (fork b l r) j → Apart (next + 1) (next + 2 + below l) r j
+  apart-right : node < next → Apart node next (internal b l r) j → Apart (next + 1) (next + 2 + below l) r j
   apart-right h w = (⊎-elim (λ u. inl (omega arith)) (λ u. inr (omega arith)) (w .1), ⊎-elim (λ u. inl (omega arith)) (λ u. inr (omega arith)) (w .1))
 
   -- a node of the left half is apart from the right half
@@ -218,7 +232,7 @@ module _ (b : Aabb) (l r : Tree) (node next j : ℕ) where
 boxes-other : (t : Tree) (node next j : ℕ) (bs : List Float) → node < next → Apart node next t j → (k : ℕ) → j * 6 ≤ k → k < j * 6 + 6 → getD (boxesOf t node next bs) k nan ≡ getD bs k nan
 unfolding boxesOf
 boxes-other (leaf b f c) node next j bs h w k p q = box-other bs node b k (⊎-elim (λ u. inl (omega arith)) (λ u. inr (omega arith)) (w .0))
-boxes-other (fork b l r) node next j bs h w k p q =
+boxes-other (internal b l r) node next j bs h w k p q =
     boxes-other r (next + 1) (next + 2 + below l) j (boxesOf l next (next + 2) (boxPut bs node b)) (omega arith) (apart-right b l r node next j h w) k p q
     ∙ boxes-other l next (next + 2) j (boxPut bs node b) (omega arith) (apart-left b l r node next j h w) k p q
     ∙ box-other bs node b k (⊎-elim (λ u. inl (omega arith)) (λ u. inr (omega arith)) (w .0))
@@ -226,7 +240,7 @@ boxes-other (fork b l r) node next j bs h w k p q =
 links-other : (t : Tree) (node next j : ℕ) (ls : List ℕ) → node < next → Apart node next t j → (k : ℕ) → j * 3 ≤ k → k < j * 3 + 3 → getD (linksOf t node next ls) k 0 ≡ getD ls k 0
 unfolding linksOf
 links-other (leaf b f c) node next j ls h w k p q = link-other ls node f c 1 k (⊎-elim (λ u. inl (omega arith)) (λ u. inr (omega arith)) (w .0))
-links-other (fork b l r) node next j ls h w k p q =
+links-other (internal b l r) node next j ls h w k p q =
     links-other r (next + 1) (next + 2 + below l) j (linksOf l next (next + 2) (linkPut ls node next 0 0)) (omega arith) (apart-right b l r node next j h w) k p q
     ∙ links-other l next (next + 2) j (linkPut ls node next 0 0) (omega arith) (apart-left b l r node next j h w) k p q
     ∙ link-other ls node next 0 0 k (⊎-elim (λ u. inl (omega arith)) (λ u. inr (omega arith)) (w .0))
@@ -237,11 +251,11 @@ other-same t node next j bs ls h w = same-numbers bs (boxesOf t node next bs) ls
 -- ---- the tree stands at its numbers
 pub data Placed (bs : List Float) (ls : List ℕ) : ℕ → ℕ → Tree → Type 0 where
   at-leaf : {node next : ℕ} {b : Aabb} {f c : ℕ} → NodeIs bs ls node b f c 1 → Placed bs ls node next (leaf b f c)
-  at-fork : {node next : ℕ} {b : Aabb} {l r : Tree} → NodeIs bs ls node b next 0 0 → Placed bs ls next (next + 2) l → Placed bs ls (next + 1) (next + 2 + below l) r → Placed bs ls node next (fork b l r)
+  at-fork : {node next : ℕ} {b : Aabb} {l r : Tree} → NodeIs bs ls node b next 0 0 → Placed bs ls next (next + 2) l → Placed bs ls (next + 1) (next + 2 + below l) r → Placed bs ls node next (internal b l r)
 
 pub placed-same : (t : Tree) (node next : ℕ) (bs bs′ : List Float) (ls ls′ : List ℕ) → ((j : ℕ) → Of node next t j → SameAt bs bs′ ls ls′ j) → Placed bs ls node next t → Placed bs′ ls′ node next t
 placed-same (leaf b f c) node next bs bs′ ls ls′ s (at-leaf n) = at-leaf (same-node bs bs′ ls ls′ node b f c 1 (s node (inl refl)) n)
-placed-same (fork b l r) node next bs bs′ ls ls′ s (at-fork n p q) =
+placed-same (internal b l r) node next bs bs′ ls ls′ s (at-fork n p q) =
     at-fork (same-node bs bs′ ls ls′ node b next 0 0 (s node (inl refl)) n)
     (placed-same l next (next + 2) bs bs′ ls ls′ (λ j w. s j (of-left b l r node next j w)) p)
     (placed-same r (next + 1) (next + 2 + below l) bs bs′ ls ls′ (λ j w. s j (of-right b l r node next j w)) q)
@@ -249,7 +263,7 @@ placed-same (fork b l r) node next bs bs′ ls ls′ s (at-fork n p q) =
 pub placed : (t : Tree) (node next : ℕ) (bs : List Float) (ls : List ℕ) → node < next → (next + below t) * 6 ≤ length bs → (next + below t) * 3 ≤ length ls → Placed (boxesOf t node next bs) (linksOf t node next ls) node next t
 unfolding boxesOf linksOf
 placed (leaf b f c) node next bs ls h g k = at-leaf (put-node bs ls node b f c 1 (omega arith) (omega arith))
-placed (fork b l r) node next bs ls h g k =
+placed (internal b l r) node next bs ls h g k =
     let B1 = boxPut bs node b in
     let L1 = linkPut ls node next 0 0 in
     let B2 = boxesOf l next (next + 2) (boxPut bs node b) in
@@ -270,25 +284,26 @@ placed (fork b l r) node next bs ls h g k =
     (placed r (next + 1) (next + 2 + below l) B2 L2 (omega arith) (omega arith) (omega arith))
 
 -- ---- so the lists hold it
-runs-up : (a b : ℕ) (t : Tree) → Runs a b t → a ≤ b
-runs-up a b (leaf x f c) w = let e = w .1 in omega arith
-runs-up a b (fork x l r) w = let u = runs-up a (w .0) l (w .1) in let v = runs-up (w .0) b r (w .2) in omega arith
-
-pub held : (index : List ℕ) (bs : List Float) (ls : List ℕ) (t : Tree) (node next a z : ℕ) → Placed bs ls node next t → Runs a z t → z ≤ length index → next + below t ≤ length ls / 3 → Holds index bs ls node t
+pub held : (index : List ℕ) (bs : List Float) (ls : List ℕ) (t : Tree) (node next a z : ℕ) → Placed bs ls node next t → Runs a z t → z ≤ length index → next + below t ≤ length ls / 3 → Holds (listsOf index bs ls) node t
+unfolding linked nodeAt leftOf rightOf
 held index bs ls (leaf b f c) node next a z (at-leaf n) w h k =
     let e = w .0 in
     let g = w .1 in
-    record { box-is = n .box-is; first-is = n .first-is; count-is = n .count-is; kind-is = n .kind-is; inside = omega arith }
-held index bs ls (fork b l r) node next a z (at-fork n p q) w h k =
+    record { bounds = n .box-is; first = n .first-is; count = n .count-is; kind = n .kind-is; inside = omega arith }
+held index bs ls (internal b l r) node next a z (at-fork n p q) w h k =
     let e = n .first-is in
     let v = runs-up (w .0) z r (w .2) in (
-      record { box-is = n .box-is; count-is = n .count-is; kind-is = n .kind-is; children = omega arith },
-      subst⁻¹ (λ (i : ℕ). Holds index bs ls i l) e (held index bs ls l next (next + 2) a (w .0) p (w .1) (omega arith) (omega arith)),
-      subst⁻¹ (λ (i : ℕ). Holds index bs ls (i + 1) r) e (held index bs ls r (next + 1) (next + 2 + below l) (w .0) z q (w .2) h (omega arith)),
+      record { bounds = n .box-is; count = n .count-is; kind = n .kind-is; left-there = omega arith; right-there = omega arith },
+      subst⁻¹ (λ (i : ℕ). Holds (listsOf index bs ls) i l) e (held index bs ls l next (next + 2) a (w .0) p (w .1) (omega arith) (omega arith)),
+      subst⁻¹ (λ (i : ℕ). Holds (listsOf index bs ls) (i + 1) r) e (held index bs ls r (next + 1) (next + 2 + below l) (w .0) z q (w .2) h (omega arith)),
     )
 
 -- ---- every node but the root is the child of exactly one
-split-of : (b : Aabb) (l r : Tree) (node next j : ℕ) → Of node next (fork b l r) j → (j ≡ node) ⊎ (Of next (next + 2) l j ⊎ Of (next + 1) (next + 2 + below l) r j)
+-- node j is a child of node i, told by the links
+abbrev Child : List ℕ → ℕ → ℕ → Type 0
+Child ls i j = (kindAt ls i ≡ 0) × ((j ≡ firstAt ls i) ⊎ (j ≡ firstAt ls i + 1))
+
+split-of : (b : Aabb) (l r : Tree) (node next j : ℕ) → Of node next (internal b l r) j → (j ≡ node) ⊎ (Of next (next + 2) l j ⊎ Of (next + 1) (next + 2 + below l) r j)
 split-of b l r node next j (inl e) = inl e
 split-of b l r node next j (inr q) = inr (go (low-or-high j (next + 1)) (low-or-high j (next + 2)) (low-or-high j (next + 2 + below l)))
   where
@@ -298,10 +313,10 @@ split-of b l r node next j (inr q) = inr (go (low-or-high j (next + 1)) (low-or-
     go (inr u) (inr v) (inl w) = inl (inr (v, w))
     go (inr u) (inr v) (inr w) = let y = q .1 in inr (inr (w, omega arith))
 
-root-children : (bs : List Float) (ls : List ℕ) (node next i j : ℕ) (b : Aabb) → NodeIs bs ls node b next 0 0 → i ≡ node → ChildOf ls i j → (next ≤ j) × (j < next + 2)
+root-children : (bs : List Float) (ls : List ℕ) (node next i j : ℕ) (b : Aabb) → NodeIs bs ls node b next 0 0 → i ≡ node → Child ls i j → (next ≤ j) × (j < next + 2)
 root-children bs ls node next i j b n e k = let x = n .first-is in let z = ap (λ (v : ℕ). firstAt ls v) e in ⊎-elim (λ u. (omega arith, omega arith)) (λ u. (omega arith, omega arith)) (k .1)
 
-fork-below : (bs : List Float) (ls : List ℕ) (b : Aabb) (l r : Tree) (node next i j : ℕ) → NodeIs bs ls node b next 0 0 → ChildOf ls i j → (Of next (next + 2) l i → (next + 2 ≤ j) × (j < next + 2 + below l))
+fork-below : (bs : List Float) (ls : List ℕ) (b : Aabb) (l r : Tree) (node next i j : ℕ) → NodeIs bs ls node b next 0 0 → Child ls i j → (Of next (next + 2) l i → (next + 2 ≤ j) × (j < next + 2 + below l))
     → (Of (next + 1) (next + 2 + below l) r i → (next + 2 + below l ≤ j) × (j < next + 2 + below l + below r)) → (i ≡ node) ⊎ (Of next (next + 2) l i ⊎ Of (next + 1) (next + 2 + below l) r i)
     → (next ≤ j) × (j < next + (2 + (below l + below r)))
 fork-below bs ls b l r node next i j n k f g (inl e) = let d = root-children bs ls node next i j b n e k in let x = d .0 in let y = d .1 in (omega arith, omega arith)
@@ -309,72 +324,82 @@ fork-below bs ls b l r node next i j n k f g (inr (inl u)) = let d = f u in let 
 fork-below bs ls b l r node next i j n k f g (inr (inr u)) = let d = g u in let x = d .0 in let y = d .1 in (omega arith, omega arith)
 
 -- a child of one of a tree's nodes is below the tree's root
-below-root : (bs : List Float) (ls : List ℕ) (t : Tree) (node next i j : ℕ) → Placed bs ls node next t → Of node next t i → ChildOf ls i j → (next ≤ j) × (j < next + below t)
+below-root : (bs : List Float) (ls : List ℕ) (t : Tree) (node next i j : ℕ) → Placed bs ls node next t → Of node next t i → Child ls i j → (next ≤ j) × (j < next + below t)
 below-root bs ls (leaf b f c) node next i j (at-leaf n) w k = ⊎-elim (λ e. absurd (leaf-childless e)) (λ q. let x = q .0 in let y = q .1 in absurd (omega arith)) w
   where
     leaf-childless : i ≡ node → ⊥
     leaf-childless e = let x = n .kind-is in let y = k .0 in let z = ap (λ (v : ℕ). kindAt ls v) e in omega arith
-below-root bs ls (fork b l r) node next i j (at-fork n p q) w k =
+below-root bs ls (internal b l r) node next i j (at-fork n p q) w k =
     fork-below bs ls b l r node next i j n k (λ u. below-root bs ls l next (next + 2) i j p u k) (λ u. below-root bs ls r (next + 1) (next + 2 + below l) i j q u k) (split-of b l r node next i w)
 
 pub record ParentIn (ls : List ℕ) (node next : ℕ) (t : Tree) (j : ℕ) : Type 0 where
   pub parent : ℕ
   pub inside : Of node next t parent
-  pub child : ChildOf ls parent j
-  pub only : (i : ℕ) → Of node next t i → ChildOf ls i j → i ≡ parent
+  pub child : Child ls parent j
+  pub only : (i : ℕ) → Of node next t i → Child ls i j → i ≡ parent
 
 module _ (bs : List Float) (ls : List ℕ) (b : Aabb) (l r : Tree) (node next j : ℕ) (n : NodeIs bs ls node b next 0 0) (p : Placed bs ls next (next + 2) l) (q : Placed bs ls (next + 1) (next + 2 + below l) r) where
-  in-left : (i : ℕ) → Of next (next + 2) l i → ChildOf ls i j → (next + 2 ≤ j) × (j < next + 2 + below l)
+  in-left : (i : ℕ) → Of next (next + 2) l i → Child ls i j → (next + 2 ≤ j) × (j < next + 2 + below l)
   in-left i u k = below-root bs ls l next (next + 2) i j p u k
 
-  in-right : (i : ℕ) → Of (next + 1) (next + 2 + below l) r i → ChildOf ls i j → (next + 2 + below l ≤ j) × (j < next + 2 + below l + below r)
+  in-right : (i : ℕ) → Of (next + 1) (next + 2 + below l) r i → Child ls i j → (next + 2 + below l ≤ j) × (j < next + 2 + below l + below r)
   in-right i u k = below-root bs ls r (next + 1) (next + 2 + below l) i j q u k
 
-  root-parent : (j ≡ next) ⊎ (j ≡ next + 1) → ParentIn ls node next (fork b l r) j
+  root-parent : (j ≡ next) ⊎ (j ≡ next + 1) → ParentIn ls node next (internal b l r) j
   root-parent w = record { parent = node; inside = inl refl; child = (n .kind-is, mine); only = λ i u k. go i (split-of b l r node next i u) k }
     where
       mine : (j ≡ firstAt ls node) ⊎ (j ≡ firstAt ls node + 1)
       mine = let x = n .first-is in ⊎-elim (λ e. inl (omega arith)) (λ e. inr (omega arith)) w
 
-      go : (i : ℕ) → (i ≡ node) ⊎ (Of next (next + 2) l i ⊎ Of (next + 1) (next + 2 + below l) r i) → ChildOf ls i j → i ≡ node
+      go : (i : ℕ) → (i ≡ node) ⊎ (Of next (next + 2) l i ⊎ Of (next + 1) (next + 2 + below l) r i) → Child ls i j → i ≡ node
       go i (inl e) k = e
       go i (inr (inl u)) k = let d = in-left i u k in let x = d .0 in absurd (⊎-elim (λ e. omega arith) (λ e. omega arith) w)
       go i (inr (inr u)) k = let d = in-right i u k in let x = d .0 in absurd (⊎-elim (λ e. omega arith) (λ e. omega arith) w)
 
-  left-parent : next + 2 ≤ j → j < next + 2 + below l → ParentIn ls next (next + 2) l j → ParentIn ls node next (fork b l r) j
+  left-parent : next + 2 ≤ j → j < next + 2 + below l → ParentIn ls next (next + 2) l j → ParentIn ls node next (internal b l r) j
   left-parent x y P = record { parent = P .parent; inside = of-left b l r node next (P .parent) (P .inside); child = P .child; only = λ i u k. go i (split-of b l r node next i u) k }
     where
-      go : (i : ℕ) → (i ≡ node) ⊎ (Of next (next + 2) l i ⊎ Of (next + 1) (next + 2 + below l) r i) → ChildOf ls i j → i ≡ P .parent
+      go : (i : ℕ) → (i ≡ node) ⊎ (Of next (next + 2) l i ⊎ Of (next + 1) (next + 2 + below l) r i) → Child ls i j → i ≡ P .parent
       go i (inl e) k = let d = root-children bs ls node next i j b n e k in let z = d .1 in absurd (omega arith)
       go i (inr (inl u)) k = P .only i u k
       go i (inr (inr u)) k = let d = in-right i u k in let z = d .0 in absurd (omega arith)
 
-  right-parent : next + 2 + below l ≤ j → ParentIn ls (next + 1) (next + 2 + below l) r j → ParentIn ls node next (fork b l r) j
+  right-parent : next + 2 + below l ≤ j → ParentIn ls (next + 1) (next + 2 + below l) r j → ParentIn ls node next (internal b l r) j
   right-parent x P = record { parent = P .parent; inside = of-right b l r node next (P .parent) (P .inside); child = P .child; only = λ i u k. go i (split-of b l r node next i u) k }
     where
-      go : (i : ℕ) → (i ≡ node) ⊎ (Of next (next + 2) l i ⊎ Of (next + 1) (next + 2 + below l) r i) → ChildOf ls i j → i ≡ P .parent
+      go : (i : ℕ) → (i ≡ node) ⊎ (Of next (next + 2) l i ⊎ Of (next + 1) (next + 2 + below l) r i) → Child ls i j → i ≡ P .parent
       go i (inl e) k = let d = root-children bs ls node next i j b n e k in let z = d .1 in absurd (omega arith)
       go i (inr (inl u)) k = let d = in-left i u k in let z = d .1 in absurd (omega arith)
       go i (inr (inr u)) k = P .only i u k
 
   one-parent : next ≤ j → j < next + (2 + (below l + below r)) → (next + 2 ≤ j → j < next + 2 + below l → ParentIn ls next (next + 2) l j)
       → (next + 2 + below l ≤ j → j < next + 2 + below l + below r → ParentIn ls (next + 1) (next + 2 + below l) r j) → (j < next + 2) ⊎ (next + 2 ≤ j) → (j < next + 2 + below l) ⊎ (next + 2 + below l ≤ j)
-      → ParentIn ls node next (fork b l r) j
+      → ParentIn ls node next (internal b l r) j
   one-parent x y f g (inl u) v = root-parent (⊎-elim (λ e. inl (omega arith)) (λ e. inr (omega arith)) (low-or-high j (next + 1)))
   one-parent x y f g (inr u) (inl v) = left-parent u v (f u v)
   one-parent x y f g (inr u) (inr v) = right-parent v (g v (omega arith))
 
 pub parent-in : (bs : List Float) (ls : List ℕ) (t : Tree) (node next j : ℕ) → Placed bs ls node next t → next ≤ j → j < next + below t → ParentIn ls node next t j
 parent-in bs ls (leaf b f c) node next j (at-leaf n) x y = absurd (omega arith)
-parent-in bs ls (fork b l r) node next j (at-fork n p q) x y =
+parent-in bs ls (internal b l r) node next j (at-fork n p q) x y =
     one-parent bs ls b l r node next j n p q x y (λ u v. parent-in bs ls l next (next + 2) j p u v) (λ u v. parent-in bs ls r (next + 1) (next + 2 + below l) j q u v) (low-or-high j (next + 2)) (low-or-high j (next + 2 + below l))
 
-pub child-of-one : (bs : List Float) (ls : List ℕ) (t : Tree) (j : ℕ) → Placed bs ls 0 1 t → 0 < j → j < size t → OnlyChild ls (size t) j
-child-of-one bs ls t j p x y =
-    let P = parent-in bs ls t 0 1 j p x y in
-    record {
-      parent = P .parent;
-      inside = ⊎-elim (λ e. omega arith) (λ q. q .1) (P .inside);
-      child = P .child;
-      only = λ i h k. P .only i (⊎-elim (λ u. inl (omega arith)) (λ u. inr (u, h)) (low-or-high i 1)) k;
-    }
+-- of a tree laid out from node 0 on, as many nodes as the lists have
+module _ (index : List ℕ) (bs : List Float) (ls : List ℕ) (t : Tree) (p : Placed bs ls 0 1 t) (all : length ls / 3 ≡ size t) where
+  one-of : (i : ℕ) → i < length ls / 3 → Of 0 1 t i
+  one-of i h = ⊎-elim (λ u. inl (omega arith)) (λ u. inr (u, omega arith)) (low-or-high i 1)
+
+  pub child-of-one : (j : ℕ) → 0 < j → j < length ls / 3 → OnlyChild (listsOf index bs ls) j
+  unfolding linked nodeAt leftOf rightOf
+  child-of-one j x y =
+      let P = parent-in bs ls t 0 1 j p x (omega arith) in
+      record {
+        parent = P .parent;
+        inside = ⊎-elim (λ e. omega arith) (λ q. omega (arith, q .1)) (P .inside);
+        child = P .child;
+        only = λ i h k. P .only i (one-of i h) k;
+      }
+
+  pub root-of-none : (i : ℕ) → i < length ls / 3 → ChildOf (listsOf index bs ls) i 0 → ⊥
+  unfolding linked nodeAt leftOf rightOf
+  root-of-none i h k = let d = below-root bs ls t 0 1 i 0 p (one-of i h) k in omega (arith, d .0)

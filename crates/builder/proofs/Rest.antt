@@ -8,7 +8,7 @@ use lib.Seq.{drop-set-lt}
 use lib.Ieee.{Float}
 use Rattle.aabb.specs.declared.bounds.Aabb.{Aabb}
 use Rattle.builder.specs.Layout.{boxPut, boxesOf, linkPut, linksOf}
-use Rattle.builder.specs.Tree.{Tree, below, fork, leaf}
+use Rattle.tree.specs.Tree.{Tree, below, internal, leaf}
 
 box-rest : (k : ℕ) (bs : List Float) (node : ℕ) (b : Aabb) → node * 6 + 6 ≤ k → drop k (boxPut bs node b) ≡ drop k bs
 unfolding boxPut
@@ -23,13 +23,13 @@ link-rest k ls node f c t h = drop-set-lt k _ (node * 3 + 2) t (omega arith) ∙
 pub boxes-rest : (k : ℕ) (t : Tree) (node next : ℕ) (bs : List Float) → node < next → (next + below t) * 6 ≤ k → drop k (boxesOf t node next bs) ≡ drop k bs
 unfolding boxesOf
 boxes-rest k (leaf b f c) node next bs h g = box-rest k bs node b (omega arith)
-boxes-rest k (fork b l r) node next bs h g =
+boxes-rest k (internal b l r) node next bs h g =
     boxes-rest k r (next + 1) (next + 2 + below l) (boxesOf l next (next + 2) (boxPut bs node b)) (omega arith) (omega arith)
     ∙ boxes-rest k l next (next + 2) (boxPut bs node b) (omega arith) (omega arith) ∙ box-rest k bs node b (omega arith)
 
 pub links-rest : (k : ℕ) (t : Tree) (node next : ℕ) (ls : List ℕ) → node < next → (next + below t) * 3 ≤ k → drop k (linksOf t node next ls) ≡ drop k ls
 unfolding linksOf
 links-rest k (leaf b f c) node next ls h g = link-rest k ls node f c 1 (omega arith)
-links-rest k (fork b l r) node next ls h g =
+links-rest k (internal b l r) node next ls h g =
     links-rest k r (next + 1) (next + 2 + below l) (linksOf l next (next + 2) (linkPut ls node next 0 0)) (omega arith) (omega arith)
     ∙ links-rest k l next (next + 2) (linkPut ls node next 0 0) (omega arith) (omega arith) ∙ link-rest k ls node next 0 0 (omega arith)

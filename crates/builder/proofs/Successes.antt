@@ -21,18 +21,26 @@ use Rattle.triangle.specs.declared.Unadmitted.the-variants.{At, Nothing}
 use Rattle.triangle.specs.Mesh.{admittedTriangle, triangleAt, firstRefused}
 use Rattle.triangle.proofs.Admitting.{none-refused}
 use Rattle.builder.specs.declared.Built.the-variants.{Tree as Grew, Refused}
-use Rattle.builder.specs.Build.{Outcome, built, checked, cramped, finished, outcome, room, upTo}
+use Rattle.lent.specs.Permutation.{upTo}
+use Rattle.builder.specs.Build.{Outcome, built, checked, cramped, finished, outcome, room}
 use Rattle.builder.specs.Layout.{boxesOf, linksOf}
-use Rattle.builder.specs.Lists.{Accepted, Exact, Nested, Runs}
+use Rattle.builder.specs.Runs.{Runs}
 use Rattle.builder.specs.Range.{boxFrom, nodeBox}
-use Rattle.builder.specs.Tree.{Grown, Tree, below, deepest, grow, leaves, most-triangles}
-use Rattle.builder.proofs.Enclosing.{Admitted, node-bounded}
+use Rattle.lent.specs.Limits.{deepest, most-triangles}
+use Rattle.tree.specs.Lent.{Lists, lent, listsOf, meshOf}
+use Rattle.tree.specs.Tree.{Tree, below, leaf, leaves, size}
+use Rattle.tree.specs.Holds.{Bare, Nested, Snug}
+use Rattle.tree.specs.Accepted.{Accepted}
+use Rattle.tree.proofs.Fitted.{fitted}
+use Rattle.builder.specs.Tree.{Grown, grow}
+use Rattle.builder.proofs.Enclosing.{Admitted}
 use Rattle.builder.proofs.Fills.{room-is}
-use Rattle.builder.proofs.Perm.{occ-at, up-below}
-use Rattle.builder.proofs.Placing.{Placed, boxes-length, held, links-length, child-of-one, placed, placed-same, same-numbers}
+use Rattle.lent.proofs.Permutation.{occ-at, up-below, up-length}
+use Rattle.builder.proofs.Placing.{Placed, boxes-length, held, links-length, child-of-one, root-of-none, placed, placed-same, same-numbers}
 use Rattle.builder.proofs.Rest.{boxes-rest, links-rest}
 use Rattle.builder.proofs.Trees.{Fine, Of-some, grown-fine}
-use Rattle.builder.proofs.Whole.{twice-leaves}
+use Rattle.builder.proofs.Vertices.{Fitting, grown-fitting}
+use Rattle.builder.proofs.InOrder.{inside, runs-held}
 
 -- ---- what a success is
 pub record Success (mesh : List Float) (index : List ℕ) (boxes : List Float) (links : List ℕ) (nodes leaf-count : ℕ) (o : Outcome) : Type 0 where
@@ -119,19 +127,18 @@ module _ (mesh : List Float) (index : List ℕ) (boxes : List Float) (links : Li
       let q = fine-rest (firstRefused mesh 0 (length mesh / 12)) (p .rest) in
       done p (grow mesh deepest 0 (upTo (length mesh / 12))) refl (q .0) (q .1)
 
--- ---- 0, 1, .., n - 1
+-- ---- no numbers
 up-none : upTo 0 ≡ []
 unfolding upTo
 up-none = refl
 
-up-length : (n : ℕ) → length (upTo n) ≡ n
-unfolding upTo
-up-length zero = refl
-up-length (suc n) = let e = up-length n in omega (arith, length-append (upTo n) (n ∷ []))
-
 empty-usable : (m : List Float) → T (usable (nodeBox m []))
 unfolding nodeBox boxFrom emptyBox usable bounded isEmpty allEqual allWithin within allAtMost eq le neg ofBits
 empty-usable m = tt
+
+empty-box : (m : List Float) → T (isEmpty (nodeBox m []))
+unfolding nodeBox boxFrom emptyBox isEmpty allEqual eq neg ofBits
+empty-box m = tt
 
 -- ---- the lists of a success, without spare room, are accepted
 module _ (mesh : List Float) (index : List ℕ) (boxes : List Float) (links : List ℕ) (nodes leaf-count : ℕ) (o : Outcome) (s : Success mesh index boxes links nodes leaf-count o) where
@@ -204,37 +211,50 @@ module _ (mesh : List Float) (index : List ℕ) (boxes : List Float) (links : Li
   its-runs : Runs 0 (length (s .grown .ids)) t
   its-runs = subst⁻¹ (λ (k : ℕ). Runs 0 k t) (fine .len ∙ sym (zero-add (length ids))) (fine .runs)
 
-  its-lists : Accepted mesh (s .grown .ids) B′ L′ t
+  -- no triangles: one leaf of none, with the empty box
+  is-bare : length mesh / 12 ≡ 0 → Bare t
+  is-bare e =
+      let z : length ids ≡ 0 = n-is ∙ e in
+      let none : ids ≡ [] = ap upTo e ∙ up-none in
+      subst⁻¹ Bare (fine .none z) ((subst⁻¹ (λ (l : List ℕ). T (isEmpty (nodeBox mesh l))) none (empty-box mesh), refl, z))
+
+  is-snug : Snug mesh (s .grown .ids) t
+  is-snug =
+      let w = subst (Of-some (Fitting mesh deepest 0 ids)) (s .grew) (grown-fitting mesh deepest 0 ids) in
+      w .snug (s .grown .ids) (λ i h. ap (λ (z : ℕ). getD (s .grown .ids) z 0) (zero-add i)) all-admits
+
+  all-nodes : length L′ / 3 ≡ size t
+  all-nodes = omega (arith, link-count)
+
+  its-lists : Accepted (lent mesh (s .grown .ids) B′ L′) t
   its-lists =
       let a = link-count in
       let b = box-count in
       let c = small in
+      let n = n-is in
       record {
-        whole = s .whole;
-        few = s .few;
-        admitted = admits;
-        entries = its-entries;
-        linked = omega arith;
-        boxed = omega arith;
-        nodes = let f = s .few in omega (arith, room-is (length mesh / 12));
-        fits = omega arith;
-        holds = held (s .grown .ids) B′ L′ t 0 1 0 (length (s .grown .ids)) stands its-runs (omega arith) (omega arith);
-        shallow = fine .shallow;
-        nested = is-nested (length mesh / 12) refl;
-        runs = its-runs;
-      }
-
-  its-rest : Exact (length mesh / 12) (s .grown .ids) L′ t
-  its-rest =
-      let a = link-count in
-      let b = n-is in
-      record {
-        one-each = its-length;
+        walkable = record {
+          whole = s .whole;
+          few = s .few;
+          fitted = fitted B′ L′ (omega arith) (omega arith) (let f = s .few in omega (arith, room-is (length mesh / 12))) (omega arith);
+          one-each = its-length;
+          entries = its-entries;
+          admitted = admits;
+          holds = held (s .grown .ids) B′ L′ t 0 1 0 (length (s .grown .ids)) stands its-runs (omega arith) (omega arith);
+          sized = omega arith;
+          shallow = fine .shallow;
+          nested = is-nested (length mesh / 12) refl;
+          covers = omega (arith, runs-held 0 (length (s .grown .ids)) t its-runs);
+        };
+        finite = λ h. fine .finite (omega arith) all-admits;
+        occupied = λ h. fine .occupied (omega arith);
+        bare = is-bare;
+        once = child-of-one (s .grown .ids) B′ L′ t stands all-nodes;
+        root = root-of-none (s .grown .ids) B′ L′ t stands all-nodes;
+        all-nodes = all-nodes;
+        apart = λ q h. inside q 0 (length (s .grown .ids)) t its-runs (omega arith) h;
         permuted = fine .same;
-        nodes-are = omega arith;
-        odd-nodes = let e = twice-leaves t in omega arith;
-        once = λ j x y. child-of-one B′ L′ t j stands x y;
-        finite = λ h. subst⁻¹ (λ (z : Aabb). T (bounded z)) (fine .box-is) (node-bounded mesh ids (omega arith) all-admits);
+        snug = is-snug;
       }
 
   taken-boxes : take (nodes * 6) (o .boxes) ≡ B′
@@ -243,15 +263,16 @@ module _ (mesh : List Float) (index : List ℕ) (boxes : List Float) (links : Li
   taken-links : take (nodes * 3) (o .links) ≡ L′
   taken-links = ap (λ (k : ℕ). take (k * 3) (o .links)) (s .nodes-are) ∙ ap (λ (z : List ℕ). take ((1 + below t) * 3) z) (s .links-are)
 
-  pub accepted : Accepted mesh (take (length mesh / 12) (o .index)) (take (nodes * 6) (o .boxes)) (take (nodes * 3) (o .links)) (s .grown .tree)
-  accepted =
-      subst⁻¹ (λ (x : List ℕ). Accepted mesh x (take (nodes * 6) (o .boxes)) (take (nodes * 3) (o .links)) t) index-taken
-      (subst⁻¹ (λ (y : List Float). Accepted mesh (s .grown .ids) y (take (nodes * 3) (o .links)) t) taken-boxes
-      (subst⁻¹ (λ (z : List ℕ). Accepted mesh (s .grown .ids) B′ z t) taken-links its-lists))
+  given-is : listsOf (take (length mesh / 12) (o .index)) (take (nodes * 6) (o .boxes)) (take (nodes * 3) (o .links)) ≡ listsOf (s .grown .ids) B′ L′
+  given-is = rw (index-taken, taken-boxes, taken-links)
 
-  pub exact : Exact (length mesh / 12) (take (length mesh / 12) (o .index)) (take (nodes * 3) (o .links)) (s .grown .tree)
-  exact =
-      subst⁻¹ (λ (x : List ℕ). Exact (length mesh / 12) x (take (nodes * 3) (o .links)) t) index-taken (subst⁻¹ (λ (z : List ℕ). Exact (length mesh / 12) (s .grown .ids) z t) taken-links its-rest)
+  -- what is handed over: the first n entries and the first 2L-1 nodes
+  pub accepted : Accepted (lent mesh (take (length mesh / 12) (o .index)) (take (nodes * 6) (o .boxes)) (take (nodes * 3) (o .links))) t
+  accepted = subst⁻¹ (λ (l : Lists). Accepted (record { mesh = meshOf mesh; tree = l }) t) given-is its-lists
+
+  -- and leaf ranges are in order
+  pub in-order : Runs 0 (length (take (length mesh / 12) (o .index))) t
+  in-order = subst⁻¹ (λ (l : List ℕ). Runs 0 (length l) t) index-taken its-runs
 
   -- the rest of the lent room stays
   pub index-stays : drop (length mesh / 12) (o .index) ≡ drop (length mesh / 12) index

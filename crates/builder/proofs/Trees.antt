@@ -16,16 +16,19 @@ use Rattle.triangle.specs.Mesh.{centroidAt}
 use Rattle.builder.specs.declared.split.SplitDecision.{SplitDecision}
 use Rattle.builder.specs.declared.split.SplitDecision.the-variants.{MakeLeaf, Split}
 use Rattle.builder.specs.Fallback.{ahead, ordered, separated}
-use Rattle.builder.specs.Heap.{Perm, occ}
-use Rattle.builder.specs.Lists.{In, Nested, Runs, boxOf, depth}
+use Rattle.lent.specs.Permutation.{Perm, occ}
+use Rattle.tree.specs.Holds.{Inside, Nested, Finite, Occupied}
+use Rattle.builder.specs.Runs.{Runs}
 use Rattle.builder.specs.Partition.{Parted, lower, moves, parted, parts, swapped}
 use Rattle.builder.specs.Range.{nodeBox}
-use Rattle.builder.specs.Tree.{Grown, Tree, below, decision, fork, grow, grownAs, joined, leaf}
+use Rattle.tree.specs.Tree.{Tree, below, boxOf, depth, internal, leaf}
+use Rattle.builder.specs.Tree.{Grown, decision, grow, grownAs, joined}
 use Rattle.builder.proofs.Enclosing.{Admitted, node-bounded, node-inside}
 use Rattle.builder.proofs.Growing.{decides-four, grow-deep, grow-fork, grow-leaf, settled-by, split-between, split-length}
 use Rattle.builder.proofs.Linear.{linear-ahead}
 use Rattle.builder.proofs.Parting.{length-swap, moves-by}
-use Rattle.builder.proofs.Perm.{occ-append, perm-swap, sorted-occ}
+use Rattle.lent.proofs.Permutation.{occ-append, perm-swap}
+use Rattle.builder.proofs.Sorting.{sorted-occ}
 
 -- ---- a partition and the fallback keep the numbers
 moves-same : (keep : ℕ → Bool) (k l : ℕ) (xs : List ℕ) → l + k ≤ length xs → Perm (moves keep k l xs .ids) xs
@@ -69,7 +72,7 @@ pub record Cut (ids xs : List ℕ) (k : ℕ) : Type 0 where
   pub len : length xs ≡ length ids
   pub same : Perm xs ids
 
-cut-of : (m : List Float) (ids : List ℕ) (a : ℕ) (p : Float) → decision m ids ≡ Split a p → Cut ids (separated m a p ids .ids) (separated m a p ids .at)
+pub cut-of : (m : List Float) (ids : List ℕ) (a : ℕ) (p : Float) → decision m ids ≡ Split a p → Cut ids (separated m a p ids .ids) (separated m a p ids .at)
 cut-of m ids a p e =
     let four : 4 < length ids = decides-four m ids a p e in
     let mid = split-between m a p ids (omega arith) in
@@ -82,7 +85,7 @@ Of-some P (some g) = P g
 
 module _ (m : List Float) (P : ℕ → ℕ → List ℕ → Grown → Type 0)
     (on-leaf : (d f : ℕ) (ids : List ℕ) → P d f ids (grownAs (leaf (nodeBox m ids) f (length ids)) ids))
-    (on-fork : (d f : ℕ) (ids xs : List ℕ) (k : ℕ) (l r : Grown) → Cut ids xs k → P d f (take k xs) l → P d (f + k) (drop k xs) r → P (suc d) f ids (grownAs (fork (nodeBox m ids) (l .tree) (r .tree)) (l .ids ++ r .ids))) where
+    (on-fork : (d f : ℕ) (ids xs : List ℕ) (k : ℕ) (l r : Grown) → Cut ids xs k → P d f (take k xs) l → P d (f + k) (drop k xs) r → P (suc d) f ids (grownAs (internal (nodeBox m ids) (l .tree) (r .tree)) (l .ids ++ r .ids))) where
   leaf-has : (d f : ℕ) (ids : List ℕ) → decision m ids ≡ MakeLeaf → Of-some (P d f ids) (grow m d f ids)
   leaf-has d f ids e = subst⁻¹ (Of-some (P d f ids)) (grow-leaf m d f ids e) (on-leaf d f ids)
 
@@ -116,6 +119,8 @@ pub record Fine (m : List Float) (d f : ℕ) (ids : List ℕ) (g : Grown) : Type
   pub room : below (g .tree) ≤ 2 * (length ids - 1)
   pub box-is : boxOf (g .tree) ≡ nodeBox m ids
   pub nested : 0 < length ids → Admitted m ids → Nested (g .tree)
+  pub finite : 0 < length ids → Admitted m ids → Finite (g .tree)
+  pub occupied : 0 < length ids → Occupied (g .tree)
   pub none : length ids ≡ 0 → g .tree ≡ leaf (nodeBox m ids) f (length ids)
 
 fine-leaf : (m : List Float) (d f : ℕ) (ids : List ℕ) → Fine m d f ids (grownAs (leaf (nodeBox m ids) f (length ids)) ids)
@@ -127,6 +132,8 @@ fine-leaf m d f ids = record {
   room = omega arith;
   box-is = refl;
   nested = λ h A. bounded-usable (nodeBox m ids) (node-bounded m ids h A);
+  finite = λ h A. node-bounded m ids h A;
+  occupied = λ h. h;
   none = λ e. refl;
 }
 
@@ -137,7 +144,7 @@ module _ (m : List Float) (d f : ℕ) (ids xs : List ℕ) (k : ℕ) (l r : Grown
   right-length : length (drop k xs) ≡ length ids - k
   right-length = length-drop k xs ∙ ap (λ (n : ℕ). n - k) (c .len)
 
-  fork-runs : Runs f (f + length ids) (fork (nodeBox m ids) (l .tree) (r .tree))
+  fork-runs : Runs f (f + length ids) (internal (nodeBox m ids) (l .tree) (r .tree))
   fork-runs = (
     f + k,
     subst (λ (n : ℕ). Runs f (f + n) (l .tree)) left-length (p .runs),
@@ -148,7 +155,7 @@ module _ (m : List Float) (d f : ℕ) (ids xs : List ℕ) (k : ℕ) (l r : Grown
       end f k n e p h = omega arith
 
   -- one half: its numbers are among the range's, so its box lies in the range's
-  half-in : (ys : List ℕ) (t : Tree) → Admitted m ids → ((v : ℕ) → 0 < occ v ys → 0 < occ v ids) → 0 < length ys → boxOf t ≡ nodeBox m ys → In (nodeBox m ids) t
+  half-in : (ys : List ℕ) (t : Tree) → Admitted m ids → ((v : ℕ) → 0 < occ v ys → 0 < occ v ids) → 0 < length ys → boxOf t ≡ nodeBox m ys → Inside (nodeBox m ids) t
   half-in ys t A w h e = (
     subst⁻¹ (λ (z : Aabb). T (bounded z)) e (node-bounded m ys h (λ v o. A v (w v o))),
     subst⁻¹ (λ (z : Aabb). T (contains (nodeBox m ids) z)) e (node-inside m ids ys A h w),
@@ -160,22 +167,25 @@ module _ (m : List Float) (d f : ℕ) (ids xs : List ℕ) (k : ℕ) (l r : Grown
   right-in : (v : ℕ) → 0 < occ v (drop k xs) → 0 < occ v ids
   right-in v o = omega (arith, part-occ v k xs, c .same v)
 
-  fork-nested : 0 < length ids → Admitted m ids → Nested (fork (nodeBox m ids) (l .tree) (r .tree))
-  fork-nested h A =
-      let a = left-length in
-      let b = right-length in
-      let x = c .low in
-      let y = c .high in
-      let hl : 0 < length (take k xs) = omega arith in
-      let hr : 0 < length (drop k xs) = omega arith in (
-        node-bounded m ids h A,
-        half-in (take k xs) (l .tree) A left-in hl (p .box-is),
-        half-in (drop k xs) (r .tree) A right-in hr (q .box-is),
-        p .nested hl (λ v o. A v (left-in v o)),
-        q .nested hr (λ v o. A v (right-in v o)),
-      )
+  left-some : 0 < length (take k xs)
+  left-some = omega (arith, left-length, c .low)
 
-  fine-fork : Fine m (suc d) f ids (grownAs (fork (nodeBox m ids) (l .tree) (r .tree)) (l .ids ++ r .ids))
+  right-some : 0 < length (drop k xs)
+  right-some = omega (arith, right-length, c .high)
+
+  fork-nested : 0 < length ids → Admitted m ids → Nested (internal (nodeBox m ids) (l .tree) (r .tree))
+  fork-nested h A = (
+    bounded-usable (nodeBox m ids) (node-bounded m ids h A),
+    half-in (take k xs) (l .tree) A left-in left-some (p .box-is),
+    half-in (drop k xs) (r .tree) A right-in right-some (q .box-is),
+    p .nested left-some (λ v o. A v (left-in v o)),
+    q .nested right-some (λ v o. A v (right-in v o)),
+  )
+
+  fork-finite : 0 < length ids → Admitted m ids → Finite (internal (nodeBox m ids) (l .tree) (r .tree))
+  fork-finite h A = (node-bounded m ids h A, p .finite left-some (λ v o. A v (left-in v o)), q .finite right-some (λ v o. A v (right-in v o)))
+
+  fine-fork : Fine m (suc d) f ids (grownAs (internal (nodeBox m ids) (l .tree) (r .tree)) (l .ids ++ r .ids))
   fine-fork =
       let a = left-length in
       let b = right-length in
@@ -189,6 +199,8 @@ module _ (m : List Float) (d f : ℕ) (ids xs : List ℕ) (k : ℕ) (l r : Grown
         room = let u = p .room in let v = q .room in omega arith;
         box-is = refl;
         nested = fork-nested;
+        finite = fork-finite;
+        occupied = λ h. (p .occupied left-some, q .occupied right-some);
         none = λ e. absurd (omega arith);
       }
 

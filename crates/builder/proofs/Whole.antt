@@ -18,20 +18,20 @@ use Rattle.builder.specs.declared.Built.{Built}
 use Rattle.builder.specs.declared.Built.the-variants.{Refused, Tree as Grew}
 use Rattle.builder.specs.declared.division.Made.{Made}
 use Rattle.builder.specs.declared.division.Made.the-variants.{Deep, Next}
-use Rattle.builder.specs.Build.{Outcome, built, checked, cramped, finished, outcome, room, upTo}
+use Rattle.lent.specs.Permutation.{upTo}
+use Rattle.builder.specs.Build.{Outcome, built, checked, cramped, finished, outcome, room}
+use Rattle.tree.proofs.Counts.{odd-size}
 use Rattle.builder.specs.Layout.{Divided, boxesOf, linksOf}
-use Rattle.builder.specs.Tree.{Grown, Tree, below, deepest, fork, grow, leaf, leaves, most-triangles}
+use Rattle.lent.specs.Limits.{deepest, most-triangles}
+use Rattle.tree.specs.Tree.{Tree, below, internal, leaf, leaves}
+use Rattle.builder.specs.Tree.{Grown, grow}
 use Rattle.builder.proofs.Growing.{never, next-same}
 
 -- ---- nodes and leaves
-pub twice-leaves : (t : Tree) → below t + 2 ≡ 2 * leaves t
-twice-leaves (leaf b f c) = refl
-twice-leaves (fork b l r) = omega (arith, twice-leaves l, twice-leaves r)
-
 leaves-are : (t : Tree) → (1 + below t) / 2 + 1 ≡ leaves t
-leaves-are t = half (below t) (leaves t) (twice-leaves t)
+leaves-are t = half (below t) (leaves t) (odd-size t)
   where
-    half : (a b : ℕ) → a + 2 ≡ 2 * b → (1 + a) / 2 + 1 ≡ b
+    half : (a b : ℕ) → 1 + a + 1 ≡ 2 * b → (1 + a) / 2 + 1 ≡ b
     half a b e = omega arith
 
 -- ---- the ends of `make`

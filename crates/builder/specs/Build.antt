@@ -12,7 +12,10 @@ use Rattle.triangle.specs.declared.Unadmitted.the-variants.{At, Nothing}
 use Rattle.triangle.specs.Mesh.{firstRefused}
 use Rattle.builder.specs.declared.Built.{Built}
 use Rattle.builder.specs.declared.Built.the-variants.{Tree as Grew, Refused}
-use Rattle.builder.specs.Tree.{most-triangles, deepest, Grown, grow, below, leaves}
+use Rattle.lent.specs.Limits.{most-triangles, deepest}
+use Rattle.lent.specs.Permutation.{upTo}
+use Rattle.tree.specs.Tree.{below, leaves}
+use Rattle.builder.specs.Tree.{Grown, grow}
 use Rattle.builder.specs.Layout.{boxesOf, linksOf}
 
 -- the answer, and what the lent index list, boxes and links hold at the end
@@ -24,11 +27,6 @@ pub record Outcome : Type 0 where
 
 abbrev pub outcome : Built → List ℕ → List Float → List ℕ → Outcome
 outcome answer index boxes links = record { answer = answer; index = index; boxes = boxes; links = links }
-
--- Indices start 0..n-1
-unfoldable pub upTo : ℕ → List ℕ
-upTo zero = []
-upTo (suc n) = upTo n ++ (n ∷ [])
 
 -- R = 2n-1, or 1 for n = 0
 unfoldable pub room : ℕ → ℕ

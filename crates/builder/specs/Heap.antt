@@ -1,22 +1,9 @@
 -- What the steps of the ordering promise each other. Definitions only.
 use Prim.Native.Nat.{ℕ, _+_, _-_, _/_, _≤_, _<_}
 use mathlib.Core.Path.{_≡_}
-use mathlib.Core.Bool.{Bool, false, cond}
-use mathlib.Core.List.{List, [], _∷_}
+use mathlib.Core.Bool.{Bool, false}
+use mathlib.Core.List.{List}
 use lib.ListN.{length, getD}
-use lib.Dec.{eqb}
-
--- how often a number stands in a list
-unfoldable pub hit : ℕ → ℕ → ℕ
-hit v x = cond (eqb v x) 1 0
-
-abbrev pub occ : ℕ → List ℕ → ℕ
-occ v [] = 0
-occ v (x ∷ xs) = hit v x + occ v xs
-
--- the same numbers, each as often
-abbrev pub Perm : List ℕ → List ℕ → Type 0
-Perm xs ys = (v : ℕ) → occ v xs ≡ occ v ys
 
 abbrev pub parent : ℕ → ℕ
 parent j = (j - 1) / 2

@@ -8,7 +8,8 @@ use lib.Ieee.{Float}
 use Rattle.aabb.specs.declared.bounds.Aabb.{Aabb}
 use Rattle.builder.specs.declared.division.Made.{Made}
 use Rattle.builder.specs.declared.division.Made.the-variants.{Next, Deep}
-use Rattle.builder.specs.Tree.{Tree, leaf, fork, Grown, below}
+use Rattle.tree.specs.Tree.{Tree, leaf, internal, below}
+use Rattle.builder.specs.Tree.{Grown}
 
 -- six f64: min x, y, z, max x, y, z
 unfoldable pub boxPut : List Float → ℕ → Aabb → List Float
@@ -22,11 +23,11 @@ linkPut links node left-or-first count kind = set (set (set links (node * 3) lef
 -- Children take the next two node numbers, the left one is divided wholly before the right
 unfoldable pub boxesOf : Tree → ℕ → ℕ → List Float → List Float
 boxesOf (leaf b f c) node next boxes = boxPut boxes node b
-boxesOf (fork b l r) node next boxes = boxesOf r (next + 1) (next + 2 + below l) (boxesOf l next (next + 2) (boxPut boxes node b))
+boxesOf (internal b l r) node next boxes = boxesOf r (next + 1) (next + 2 + below l) (boxesOf l next (next + 2) (boxPut boxes node b))
 
 unfoldable pub linksOf : Tree → ℕ → ℕ → List ℕ → List ℕ
 linksOf (leaf b f c) node next links = linkPut links node f c 1
-linksOf (fork b l r) node next links = linksOf r (next + 1) (next + 2 + below l) (linksOf l next (next + 2) (linkPut links node next 0 0))
+linksOf (internal b l r) node next links = linksOf r (next + 1) (next + 2 + below l) (linksOf l next (next + 2) (linkPut links node next 0 0))
 
 -- what `subdivide` answers and leaves, of a grown tree or of one too deep
 pub record Laid (g : Grown) (node next : ℕ) (boxes : List Float) (links : List ℕ) (r : Made) (index′ : List ℕ) (boxes′ : List Float) (links′ : List ℕ) : Type 0 where

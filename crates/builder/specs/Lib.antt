@@ -5,7 +5,8 @@ pub mod Choice
 pub mod Partition
 pub mod Fallback
 pub mod Tree
+pub mod Depth
 pub mod Layout
 pub mod Build
 pub mod Heap
-pub mod Lists
+pub mod Runs

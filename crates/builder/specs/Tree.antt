@@ -5,28 +5,13 @@ use mathlib.Core.List.{List, [], _∷_, _++_}
 use lib.ListN.{length, take, drop}
 use lib.Ieee.{Float}
 use Rattle.aabb.specs.declared.bounds.Aabb.{Aabb}
+use Rattle.tree.specs.Tree.{Tree, leaf, internal}
 use Rattle.builder.specs.declared.split.SplitDecision.{SplitDecision}
 use Rattle.builder.specs.declared.split.SplitDecision.the-variants.{Split, MakeLeaf}
 use Rattle.builder.specs.Range.{nodeBox, centroidBox}
 use Rattle.builder.specs.Choice.{bestSplit}
 use Rattle.builder.specs.Partition.{Parted}
 use Rattle.builder.specs.Fallback.{separated}
-
--- n at most 65,536, and the 2n-1 nodes that they can have
-abbrev pub most-triangles : ℕ
-most-triangles = 65536
-
-abbrev pub most-nodes : ℕ
-most-nodes = 131071
-
--- no node is deeper than 63 (root 0)
-abbrev pub deepest : ℕ
-deepest = 63
-
--- a leaf has its box, the place of its first in the index list, and how many; an internal node its box and two children
-pub data Tree : Type 0 where
-  leaf : Aabb → ℕ → ℕ → Tree
-  fork : Aabb → Tree → Tree → Tree
 
 -- a tree, and its range after every partition
 pub record Grown : Type 0 where
@@ -39,7 +24,7 @@ grownAs t xs = record { tree = t; ids = xs }
 unfoldable pub joined : Aabb → Option Grown → Option Grown → Option Grown
 joined b none r = none
 joined b (some l) none = none
-joined b (some l) (some r) = some (grownAs (fork b (l .tree) (r .tree)) (l .ids ++ r .ids))
+joined b (some l) (some r) = some (grownAs (internal b (l .tree) (r .tree)) (l .ids ++ r .ids))
 
 unfoldable pub decision : List Float → List ℕ → SplitDecision
 decision mesh range = bestSplit mesh range (nodeBox mesh range) (centroidBox mesh range)
@@ -56,12 +41,3 @@ grow mesh (suc d) first range = elim (decision mesh range) [
       (grow mesh d first (take (separated mesh a p range .at) (separated mesh a p range .ids)))
       (grow mesh d (first + separated mesh a p range .at) (drop (separated mesh a p range .at) (separated mesh a p range .ids)))
 ]
-
--- the nodes below the root, and the leaves
-abbrev pub below : Tree → ℕ
-below (leaf b f c) = 0
-below (fork b l r) = 2 + (below l + below r)
-
-abbrev pub leaves : Tree → ℕ
-leaves (leaf b f c) = 1
-leaves (fork b l r) = leaves l + leaves r

@@ -6,8 +6,9 @@ use crate::split;
 use crate::split::SplitDecision;
 ghost use Prim.Native.Nat.{ℕ, _+_, _*_, _/_, _≤_, _<_, _-_};
 ghost use lib.ListN.{length};
-ghost use Rattle.builder.specs.Tree.{most-triangles, most-nodes, grow};
-ghost use Rattle.builder.specs.Heap.{occ};
+ghost use Rattle.lent.specs.Limits.{most-triangles, most-nodes};
+ghost use Rattle.builder.specs.Tree.{grow};
+ghost use Rattle.lent.specs.Permutation.{occ};
 ghost use Rattle.builder.specs.Layout.{Divided};
 
 // No node is deeper (the root's depth is 0).

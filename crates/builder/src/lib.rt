@@ -15,8 +15,10 @@ use triangle::Unadmitted;
 ghost use mathlib.Core.Path.{_≡_};
 ghost use Prim.Native.Nat.{_+_, _*_, _/_, _≤_, _-_};
 ghost use lib.ListN.{length};
-ghost use Rattle.builder.specs.Tree.{most-triangles, deepest, grow};
-ghost use Rattle.builder.specs.Build.{upTo, outcome, finished, built};
+ghost use Rattle.lent.specs.Limits.{most-triangles, deepest};
+ghost use Rattle.builder.specs.Tree.{grow};
+ghost use Rattle.lent.specs.Permutation.{upTo};
+ghost use Rattle.builder.specs.Build.{outcome, finished, built};
 
 // What a build answers: the tree's node count and leaf count, or document 01's refusal number and its `at`.
 pub enum Built {
@@ -37,7 +39,7 @@ pub fn build(triangles: &[f64], index: &mut [u32], boxes: &mut [f64], links: &mu
         return Built::Refused { number: 1, at: 0 };
     }
     let n = triangles.len() / 12;
-    if start::MOST_TRIANGLES < n {
+    if lent::MOST_TRIANGLES < n {
         return Built::Refused { number: 2, at: n };
     }
     if index.len() < n {

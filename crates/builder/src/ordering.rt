@@ -6,9 +6,10 @@ ghost use Prim.Native.Nat.{ℕ, _+_, _*_, _≤_, _<_};
 ghost use lib.ListN.{length, getD};
 ghost use lib.Ieee.{Float};
 ghost use Rattle.triangle.specs.Mesh.{centroidAt};
-ghost use Rattle.builder.specs.Tree.{most-triangles};
+ghost use Rattle.lent.specs.Limits.{most-triangles};
 ghost use Rattle.builder.specs.Fallback.{ahead, ordered};
-ghost use Rattle.builder.specs.Heap.{Perm, HeapFrom, Greater};
+ghost use Rattle.lent.specs.Permutation.{Perm};
+ghost use Rattle.builder.specs.Heap.{HeapFrom, Greater};
 
 // A triangle number, and the centroid of that triangle on the axis of the order: worked out once for several comparisons.
 pub struct Ranked {

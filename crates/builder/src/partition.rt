@@ -4,7 +4,7 @@ use crate::range;
 ghost use mathlib.Core.Path.{_≡_};
 ghost use Prim.Native.Nat.{_≤_};
 ghost use lib.ListN.{length};
-ghost use Rattle.builder.specs.Tree.{most-triangles};
+ghost use Rattle.lent.specs.Limits.{most-triangles};
 ghost use Rattle.builder.specs.Partition.{parts, parted};
 ghost use Rattle.builder.specs.Fallback.{separated};
 

@@ -11,9 +11,9 @@ ghost use lib.ListN.{length, replicate};
 ghost use lib.Ieee.{Float, div, sub, binary64};
 ghost use Rattle.float.specs.Number.{sixteen};
 ghost use Rattle.aabb.specs.Vector.{along};
-ghost use Rattle.builder.specs.Tree.{most-triangles};
+ghost use Rattle.lent.specs.Limits.{most-triangles};
 ghost use Rattle.builder.specs.Bins.{noBin, filled};
-ghost use Rattle.builder.specs.Heap.{occ};
+ghost use Rattle.lent.specs.Permutation.{occ};
 ghost use Rattle.builder.specs.Lanes.{lane, Lanes};
 ghost use Rattle.builder.specs.Choice.{weight, betterOf, sweepFrom, tryAxis, bestSplit};
 

@@ -3,10 +3,9 @@ ghost use mathlib.Core.Path.{_≡_};
 ghost use Prim.Native.Nat.{_≤_};
 ghost use lib.ListN.{length, replicate};
 ghost use Rattle.float.specs.Number.{nought};
-ghost use Rattle.builder.specs.Tree.{most-triangles};
-ghost use Rattle.builder.specs.Build.{upTo, room};
-
-pub const MOST_TRIANGLES: usize = 65536;
+ghost use Rattle.lent.specs.Limits.{most-triangles};
+ghost use Rattle.lent.specs.Permutation.{upTo};
+ghost use Rattle.builder.specs.Build.{room};
 
 // R, the node room that n triangles ask: 2n-1, or 1 for none.
 pub fn room(n: usize) -> usize

@@ -1,5 +1,5 @@
 -- The tree that a build's lists hold, as the walk's layer speaks of it: what the builder's layer shows of the lists is what the walk's layer asks. Assumes nothing.
-use mathlib.Core.Path.{_≡_, refl}
+use mathlib.Core.Path.{_≡_, refl, _∙_}
 use mathlib.Core.Bool.{false}
 use mathlib.Core.List.{List}
 use Prim.Native.Nat.{ℕ, _+_, _-_, _*_, _/_, _%_, _≤_, _<_}
@@ -8,8 +8,11 @@ use lib.ListN.{length, getD}
 use lib.Ieee.{Float}
 use borrow.Author.Tests.{eq-eqb, ne-eqb, le-ltb}
 use Rattle.aabb.proofs.Holds.{bounded-usable}
-use Rattle.builder.specs.Tree.{Tree as Grown-tree, leaf as grown-leaf, fork as grown-fork, leaves as grown-leaves}
-use Rattle.builder.specs.Lists.{boxOf as grown-box, size as grown-size, depth as grown-depth, Holds as Grown-holds, Nested as Grown-nested, Runs as Grown-runs, Accepted as Grown-accepted}
+use Rattle.tree.specs.Lent.{Lists, lent as grown-lent, listsOf}
+use Rattle.tree.specs.Node.{linked, nodeAt as grown-node, leftOf as grown-left, rightOf as grown-right, misfit as grown-misfit}
+use Rattle.tree.specs.Tree.{Tree as Grown-tree, leaf as grown-leaf, internal as grown-fork, leaves as grown-leaves, boxOf as grown-box, size as grown-size, depth as grown-depth, held as grown-held}
+use Rattle.tree.specs.Holds.{Holds as Grown-holds, Nested as Grown-nested}
+use Rattle.tree.specs.Accepted.{Walkable}
 use Rattle.walk.specs.Lent.{lent, nodeAt, leftOf, rightOf}
 use Rattle.walk.specs.Walk.{misfit}
 use Rattle.walk.specs.Tree.{Tree, leaf, internal, boxOf, size, leaves, depth, held, Holds, Nested, Accepted}
@@ -35,16 +38,16 @@ depth-as : (t : Grown-tree) → depth (asTree t) ≡ grown-depth t
 depth-as (grown-leaf b p c) = refl
 depth-as (grown-fork b u v) = rw (depth-as u, depth-as v)
 
-held-runs : (a b : ℕ) (t : Grown-tree) → Grown-runs a b t → b ≡ a + held (asTree t)
-held-runs a b (grown-leaf x p c) h = h .1
-held-runs a b (grown-fork x u v) h = omega (arith, held-runs a (h .0) u (h .1), held-runs (h .0) b v (h .2))
+held-as : (t : Grown-tree) → held (asTree t) ≡ grown-held t
+held-as (grown-leaf b p c) = refl
+held-as (grown-fork b u v) = rw (held-as u, held-as v)
 
 -- ---- the lists hold it
-holds-as : (mesh : List Float) (index : List ℕ) (boxes : List Float) (links : List ℕ) (i : ℕ) (t : Grown-tree) → Grown-holds index boxes links i t → Holds (lent mesh index boxes links) i (asTree t)
-unfolding nodeAt leftOf rightOf
-holds-as mesh index boxes links i (grown-leaf b p c) h = record { bounds = h .box-is; first = h .first-is; count = h .count-is; kind = h .kind-is; inside = h .inside }
+holds-as : (mesh : List Float) (index : List ℕ) (boxes : List Float) (links : List ℕ) (i : ℕ) (t : Grown-tree) → Grown-holds (listsOf index boxes links) i t → Holds (lent mesh index boxes links) i (asTree t)
+unfolding nodeAt leftOf rightOf linked grown-node grown-left grown-right
+holds-as mesh index boxes links i (grown-leaf b p c) h = record { bounds = h .bounds; first = h .first; count = h .count; kind = h .kind; inside = h .inside }
 holds-as mesh index boxes links i (grown-fork b u v) h = (
-  record { bounds = h .0 .box-is; count = h .0 .count-is; kind = h .0 .kind-is; left-there = omega (arith, h .0 .children); right-there = h .0 .children },
+  record { bounds = h .0 .bounds; count = h .0 .count; kind = h .0 .kind; left-there = h .0 .left-there; right-there = h .0 .right-there },
   holds-as mesh index boxes links (getD links (i * 3) 0) u (h .1),
   holds-as mesh index boxes links (getD links (i * 3) 0 + 1) v (h .2),
 )
@@ -53,7 +56,7 @@ holds-as mesh index boxes links i (grown-fork b u v) h = (
 nested-as : (t : Grown-tree) → Grown-nested t → Nested (asTree t)
 nested-as (grown-leaf b p c) h = h
 nested-as (grown-fork b u v) h = (
-  bounded-usable b (h .0),
+  h .0,
   (rw (box-as u) (h .1 .0), rw (box-as u) (h .1 .1)),
   (rw (box-as v) (h .2 .0), rw (box-as v) (h .2 .1)),
   nested-as u (h .3),
@@ -61,23 +64,18 @@ nested-as (grown-fork b u v) h = (
 )
 
 -- ---- so they are accepted
-fitted : (boxes : List Float) (links : List ℕ) → 0 < length links / 3 → length links % 3 ≡ 0 → length links / 3 ≤ 131071 → length boxes ≡ 2 * length links → misfit boxes links ≡ false
-unfolding misfit
-fitted boxes links some whole few twice =
-    rw (ne-eqb (length links) 0 (λ e. omega (arith, e)), eq-eqb (length links % 3) 0 whole, le-ltb 131071 (length links / 3) few, eq-eqb (length boxes) (2 * length links) twice)
-
-pub accepted-as : (mesh : List Float) (index : List ℕ) (boxes : List Float) (links : List ℕ) (t : Grown-tree) → length index ≡ length mesh / 12 → Grown-accepted mesh index boxes links t
-    → Accepted (lent mesh index boxes links) (asTree t)
-accepted-as mesh index boxes links t one A = record {
+pub accepted-as : (mesh : List Float) (index : List ℕ) (boxes : List Float) (links : List ℕ) (t : Grown-tree) → Walkable (grown-lent mesh index boxes links) t → Accepted (lent mesh index boxes links) (asTree t)
+unfolding misfit grown-misfit
+accepted-as mesh index boxes links t A = record {
   whole = A .whole;
   few = A .few;
-  fitted = fitted boxes links (omega (arith, A .fits)) (A .linked) (A .nodes) (A .boxed);
-  one-each = one;
+  fitted = A .fitted;
+  one-each = A .one-each;
   entries = A .entries;
   admitted = A .admitted;
   holds = holds-as mesh index boxes links 0 t (A .holds);
-  sized = omega (arith, size-as t, A .fits);
+  sized = omega (arith, size-as t, A .sized);
   shallow = rw (depth-as t) (A .shallow);
   nested = nested-as t (A .nested);
-  covers = omega (arith, held-runs 0 (length index) t (A .runs));
+  covers = held-as t ∙ A .covers;
 }

@@ -10,7 +10,7 @@ use Rattle.aabb.specs.declared.vector.Ray.{Ray}
 use Rattle.aabb.specs.Vector.{admittedRay}
 use Rattle.builder.specs.declared.Built.the-variants.{Tree as Grew}
 use Rattle.builder.specs.Build.{Outcome, built}
-use Rattle.builder.proofs.Successes.{success, exact, accepted as accepted-lists}
+use Rattle.builder.proofs.Successes.{success, accepted as accepted-lists}
 use Rattle.walk.specs.Lent.{Lent, lent, triangleCount}
 use Rattle.walk.specs.Answer.{Told}
 use Rattle.walk.specs.Walk.{over}
@@ -57,9 +57,8 @@ module _ (mesh : List Float) (index : List ℕ) (boxes : List Float) (links : Li
       let w = success mesh index boxes links nodes leaf-count left e refl in
       let t = w .grown .tree in
       let A = accepted-lists mesh index boxes links nodes leaf-count left w in
-      let X = exact mesh index boxes links nodes leaf-count left w in
       let size-is : size (asTree t) ≡ nodes = omega (arith, size-as t, w .nodes-are) in
-      let B = accepted-as mesh _ _ _ t (X .one-each) A in
+      let B = accepted-as mesh _ _ _ t (A .walkable) in
       let leaves-is : leaves (asTree t) ≡ leaf-count = leaves-as t ∙ sym (w .leaves-are) in
       record {
         tree = asTree t;

@@ -18,7 +18,8 @@ use Rattle.builder.specs.Partition.{moves, lower, parted}
 use Rattle.builder.specs.Fallback.{underAt, ahead as builder-ahead, insert, sorted, ordered, settled, separated}
 use Rattle.builder.specs.Tree.{joined, decision, leafOf, grow}
 use Rattle.builder.specs.Layout.{boxPut, linkPut, boxesOf, linksOf}
-use Rattle.builder.specs.Build.{upTo, room, finished, checked, cramped, built}
+use Rattle.lent.specs.Permutation.{upTo}
+use Rattle.builder.specs.Build.{room, finished, checked, cramped, built}
 use Rattle.walk.specs.Lent.{triangleCount, nodeAt, sound, leftOf, rightOf}
 use Rattle.walk.specs.Walk.{boxed, replaces, nearer, after, tested, scan, openLeaf, openInternal, opened, judged as scene-judged, visit, hitOf, over, run, misfit, walk}
 use Rattle.demands.specs.Handed.{handedAs, handed}

@@ -96,8 +96,8 @@ module _ (mesh : List Float) (index : List ℕ) (boxes : List Float) (links : Li
   built-sky e sixes timed roomy =
       let A = accepted-lists mesh index boxes links nodes leaf-count (built mesh index boxes links) (success mesh index boxes links nodes leaf-count (built mesh index boxes links) e refl) in
       let m = handed-mesh mesh (built mesh index boxes links) in
-      let whole : length (s .triangles) % 12 ≡ 0 = ap (λ (l : List Float). length l % 12) m ∙ A .whole in
-      let few : triangleCount (s .triangles) ≤ most-triangles = omega (arith, ap (λ (l : List Float). length l / 12) m, A .few) in
+      let whole : length (s .triangles) % 12 ≡ 0 = ap (λ (l : List Float). length l % 12) m ∙ A .walkable .whole in
+      let few : triangleCount (s .triangles) ≤ most-triangles = omega (arith, ap (λ (l : List Float). length l / 12) m, A .walkable .few) in
       let is : filling ≡ sky s rays times told = sky-filled s rays times told whole few sixes timed roomy _ _ refl refl in
       rw (← is) (record { served = refl; each = place })
     where

@@ -19,7 +19,8 @@ use Rattle.builder.specs.declared.Built.the-variants.{Tree}
 use Rattle.builder.specs.declared.split.SplitDecision.{SplitDecision}
 use Rattle.builder.specs.declared.split.SplitDecision.the-variants.{Split}
 use Rattle.builder.specs.Tree.{decision}
-use Rattle.builder.specs.Build.{Outcome, outcome, room, upTo, built}
+use Rattle.lent.specs.Permutation.{upTo}
+use Rattle.builder.specs.Build.{Outcome, outcome, room, built}
 use Rattle.walk.specs.Lent.{triangleCount}
 use Rattle.walk.specs.Answer.{Told, none}
 use Rattle.walk.specs.Walk.{walk}

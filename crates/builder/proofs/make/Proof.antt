@@ -7,12 +7,13 @@ use lib.ListN.{length, drop, replicate}
 use lib.Ieee.{Float, le}
 use borrow.Rule.Slice.PartMut.{postOf}
 use Rattle.float.specs.Number.{nought}
-use Rattle.builder.specs.Build.{upTo}
-use Rattle.builder.specs.Heap.{occ}
+use Rattle.lent.specs.Permutation.{upTo}
+use Rattle.lent.specs.Permutation.{occ}
 use Rattle.builder.specs.Layout.{Divided}
-use Rattle.builder.specs.Tree.{deepest, grow}
+use Rattle.lent.specs.Limits.{deepest}
+use Rattle.builder.specs.Tree.{grow}
 use Rattle.builder.proofs.Heaps.{lent}
-use Rattle.builder.proofs.Perm.{up-below}
+use Rattle.lent.proofs.Permutation.{up-below}
 use Rattle.builder.proofs.Whole.{c-length, front-length-is, lent-again, made-deep, made-done, rest-again, twice-length}
 use borrow.Author.Needs.{needs}
 use Rattle.builder.proofs.make.Statement.{statement}

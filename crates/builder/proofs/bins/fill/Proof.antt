@@ -5,10 +5,10 @@ use native.Mathlib.Omega.{arith}
 use lib.ListN.{length, getD}
 use Rattle.triangle.specs.Mesh.{triangleAt}
 use Rattle.builder.specs.Lanes.{Lanes}
-use Rattle.builder.specs.Tree.{most-triangles}
+use Rattle.lent.specs.Limits.{most-triangles}
 use Rattle.builder.proofs.Lanes.{lanes-up}
 use Rattle.builder.proofs.Passes.{bounds-by, centroid-by}
-use Rattle.builder.proofs.Perm.{occ-at}
+use Rattle.lent.proofs.Permutation.{occ-at}
 use Rattle.builder.proofs.Three.{Ahead, ahead-again, ahead-end, ahead-start, one-more, three-more, two-more}
 use borrow.Author.Needs.{needs}
 use Rattle.builder.proofs.bins.fill.Statement.{statement}

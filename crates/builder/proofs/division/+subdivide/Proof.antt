@@ -8,7 +8,7 @@ use lib.Seq.{length-take-le}
 use lib.Ieee.{le}
 use borrow.Rule.Slice.PartMut.{midOf, postOf, putMid}
 use Rattle.builder.specs.Build.{room}
-use Rattle.builder.specs.Heap.{occ}
+use Rattle.lent.specs.Permutation.{occ}
 use Rattle.builder.proofs.Growing.{Mid, both-halves, divided-both, divided-deep, divided-leaf, divided-left, halves-length, left-room, mid, right-room, second-half, then-room}
 use Rattle.builder.proofs.Trees.{left-has, right-has}
 use borrow.Author.Needs.{needs}

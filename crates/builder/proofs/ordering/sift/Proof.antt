@@ -6,11 +6,11 @@ use mathlib.Core.List.{List}
 use lib.ListN.{length, getD}
 use Rattle.triangle.specs.Mesh.{centroidAt}
 use Rattle.builder.specs.Fallback.{ahead}
-use Rattle.builder.specs.Heap.{Perm, occ}
+use Rattle.lent.specs.Permutation.{Perm, occ}
 use Rattle.builder.proofs.Heaps.{Nearly, nearly-next, nearly-none, nearly-start, nearly-stop, swap-second}
 use Rattle.builder.proofs.Linear.{linear-ahead}
 use Rattle.builder.proofs.Parting.{length-swap}
-use Rattle.builder.proofs.Perm.{perm-swap}
+use Rattle.lent.proofs.Permutation.{perm-swap}
 use borrow.Author.Needs.{needs}
 use Rattle.builder.proofs.ordering.sift.Statement.{statement}
 use Rattle.builder.proofs.ordering.sift.Tie as tie

@@ -1,0 +1,5 @@
+pub mod Limits
+pub mod Ladder
+pub mod Flat
+pub mod Permutation
+pub mod Members
