@@ -38,7 +38,7 @@ pub fn build(triangles: &[f64], index: &mut [u32], boxes: &mut [f64], links: &mu
         return Built::Refused { number: 1, at: 0 };
     }
     let n = triangles.len() / 12;
-    if start::MOST_TRIANGLES < n {
+    if lent::MOST_TRIANGLES < n {
         return Built::Refused { number: 2, at: n };
     }
     if index.len() < n {

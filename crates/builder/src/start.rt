@@ -7,8 +7,6 @@ ghost use Rattle.lent.specs.Limits.{most-triangles};
 ghost use Rattle.lent.specs.Permutation.{upTo};
 ghost use Rattle.builder.specs.Build.{room};
 
-pub const MOST_TRIANGLES: usize = 65536;
-
 // R, the node room that n triangles ask: 2n-1, or 1 for none.
 pub fn room(n: usize) -> usize
     requires { ⌜ n ≤ most-triangles ⌝ }
