@@ -14,7 +14,7 @@ ghost use Rattle.aabb.specs.Vector.{along};
 ghost use Rattle.builder.specs.Tree.{most-triangles};
 ghost use Rattle.builder.specs.Bins.{noBin, filled};
 ghost use Rattle.builder.specs.Heap.{Numbered};
-ghost use Rattle.builder.specs.Lanes.{lane, Lanes};
+ghost use Rattle.builder.specs.inner.Lanes.{lane, Lanes};
 ghost use Rattle.builder.specs.Choice.{weight, betterOf, sweepFrom, tryAxis, bestOfAxes, bestSplit};
 
 pub enum SplitDecision {
