@@ -160,5 +160,6 @@ place-whole i w n p h = let k = mul-le-mul-right w h in omega (arith, div-mul-le
 pub place-end : (i w n : ℕ) → (w ≡ 0 → ⊥) → n / w < i → n ≤ i * w
 place-end i w n p h = let k = mul-le-mul-right w h in omega (arith, lt-div-mul-add {a = n} {b = w} (omega arith))
 
-pub box-starts : (l : List Float) (a at : ℕ) (lo hi : Vec3) → at ≡ min a (length l) → lo ≡ vectorAt l at → hi ≡ vectorAt l (at + 3) → box lo hi ≡ box (vectorAt l a) (vectorAt l (a + 3))
-box-starts l a at lo hi p q r = cc (vector-start l a, vector-from l a 3)
+-- two vectors, one after the other, whatever they make
+pub pair-starts : {A : Type 0} (f : Vec3 → Vec3 → A) (l : List Float) (a at : ℕ) (lo hi : Vec3) → at ≡ min a (length l) → lo ≡ vectorAt l at → hi ≡ vectorAt l (at + 3) → f lo hi ≡ f (vectorAt l a) (vectorAt l (a + 3))
+pair-starts f l a at lo hi p q r = cc (vector-start l a, vector-from l a 3)

@@ -1,5 +1,5 @@
 -- Vectors and rays, as document 01 fixes them for optics_core: each operation is IEEE 754's, rounded once. Definitions only.
-use Prim.Native.Nat.{ℕ, zero, suc, _+_}
+use Prim.Native.Nat.{ℕ, zero, suc, _+_, _*_}
 use mathlib.Core.Bool.{Bool, _&&_}
 use mathlib.Core.List.{List}
 use lib.ListN.{getD}
@@ -84,6 +84,13 @@ unfoldable pub vectorAt : List Float → ℕ → Vec3
 vectorAt numbers k = vec (numberAt numbers k) (numberAt numbers (k + 1)) (numberAt numbers (k + 2))
 
 -- ---- rays
+abbrev pub rayFrom : Vec3 → Vec3 → Ray
+rayFrom origin direction = record { origin = origin; direction = direction }
+
+-- ray k of a lent slice, six numbers each: origin, direction
+unfoldable pub rayAt : List Float → ℕ → Ray
+rayAt numbers k = rayFrom (vectorAt numbers (k * 6)) (vectorAt numbers (k * 6 + 3))
+
 -- a point at t is origin + direction·t, by component
 unfoldable pub pointAt : Ray → Float → Vec3
 pointAt r t = plus (r .origin) (scaled (r .direction) t)

@@ -2,7 +2,7 @@
 ghost use mathlib.Core.Path.{_≡_};
 ghost use Prim.Native.Nat.{_*_, min};
 ghost use lib.ListN.{length};
-ghost use Rattle.aabb.specs.Vector.{plus, minus, negated, scaled, divided, dot, cross, least, greatest, along, within, allWithin, allAtMost, allEqual, vectorAt, pointAt, admittedRay, numberAt};
+ghost use Rattle.aabb.specs.Vector.{plus, minus, negated, scaled, divided, dot, cross, least, greatest, along, within, allWithin, allAtMost, allEqual, vectorAt, pointAt, rayAt, admittedRay, numberAt};
 
 pub struct Vec3 {
     pub x: f64,
@@ -221,6 +221,16 @@ pub struct Ray {
 }
 
 impl Ray {
+    // Ray k of a lent slice, six numbers each: origin, direction; a NaN for each place beyond its end.
+    pub fn read(numbers: &[f64], k: usize) -> Ray
+        ensures { λ r. ⌜ r ≡ rayAt (now (numbers .entry)) k ⌝ }
+    {
+        let at = place(numbers, k, 6);
+        let origin = Vec3::read(numbers, at);
+        let direction = Vec3::read(numbers, at + 3);
+        Ray { origin, direction }
+    }
+
     // The point at t: origin + direction·t, by component.
     pub fn at(self, t: f64) -> Vec3
         ensures { λ r. ⌜ r ≡ pointAt self t ⌝ }

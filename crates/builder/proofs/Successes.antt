@@ -4,31 +4,29 @@ use Prim.Native.Nat.{ℕ, zero, suc, _+_, _*_, _/_, _%_, _≤_, _<_}
 use native.Mathlib.Omega.{arith}
 use native.Mathlib.Nat.{zero-add}
 use mathlib.Core.Logic.{_⊎_, ⊎-elim}
-use mathlib.Core.Bool.{Bool, true, false, cond, not, _||_}
 use mathlib.Core.Option.{Option, none, some}
-use mathlib.Core.List.{List, [], _∷_, _++_}
-use lib.ListN.{length, getD, take, drop, length-append}
+use mathlib.Core.List.{List, [], _++_}
+use lib.ListN.{length, getD, take, drop}
 use lib.Seq.{getD-take, length-take-le, take-at, drop-at}
-use lib.Dec.{T, ltb, eqb}
+use lib.Dec.{T, eqb}
 use lib.Ieee.{Float, nan, neg, le, eq, ofBits}
 use borrow.Author.Tests.{eqb-true, ltb-false, not-false}
-use Rattle.float.proofs.Cases.{neither}
 use Rattle.aabb.specs.Bounds.{bounded, emptyBox, isEmpty, usable}
 use Rattle.aabb.specs.Vector.{allAtMost, allEqual, allWithin, within}
-use Rattle.aabb.specs.declared.bounds.Aabb.{Aabb}
-use Rattle.triangle.specs.declared.Unadmitted.{Unadmitted}
-use Rattle.triangle.specs.declared.Unadmitted.the-variants.{At, Nothing}
+use Rattle.triangle.specs.declared.Unadmitted.the-variants.{Nothing}
 use Rattle.triangle.specs.Mesh.{admittedTriangle, triangleAt, firstRefused}
-use Rattle.triangle.proofs.Admitting.{none-refused}
+use Rattle.triangle.proofs.Admitting.{none-unadmitted, none-refused}
 use Rattle.builder.specs.declared.Built.the-variants.{Tree as Grew, Refused}
 use Rattle.lent.specs.Permutation.{upTo}
-use Rattle.builder.specs.Build.{Outcome, built, checked, cramped, finished, outcome, room}
+use Rattle.lent.specs.Ladder.{triangleCount}
+use Rattle.lent.proofs.Ladder.{all-passed}
+use Rattle.builder.specs.Build.{Outcome, built, finished, room}
 use Rattle.builder.specs.Layout.{boxesOf, linksOf}
 use Rattle.builder.specs.Runs.{Runs}
 use Rattle.builder.specs.Range.{boxFrom, nodeBox}
 use Rattle.lent.specs.Limits.{deepest, most-triangles}
 use Rattle.tree.specs.Lent.{Lists, lent, listsOf, meshOf}
-use Rattle.tree.specs.Tree.{Tree, below, leaf, leaves, size}
+use Rattle.tree.specs.Tree.{Tree, below, leaves, size}
 use Rattle.tree.specs.Holds.{Bare, Nested, Snug}
 use Rattle.tree.specs.Accepted.{Accepted}
 use Rattle.tree.proofs.Fitted.{fitted}
@@ -61,49 +59,38 @@ pub record Success (mesh : List Float) (index : List ℕ) (boxes : List Float) (
 no-refusal : {A : Type 0} (k a n l : ℕ) → Refused k a ≡ Grew n l → A
 no-refusal k a n l e = absurd (let z : _≡_ {A = ℕ} 0 1 = cc in omega arith)
 
--- a test that would refuse was false, and the rest gives the outcome
-peel : (t : Bool) (k a n l : ℕ) (xs : List ℕ) (bs : List Float) (ls : List ℕ) (rest o : Outcome) → cond t (outcome (Refused k a) xs bs ls) rest ≡ o → o .answer ≡ Grew n l → (t ≡ false) × (rest ≡ o)
-peel true k a n l xs bs ls rest o e g = no-refusal k a n l (ap (λ (w : Outcome). w .answer) e ∙ g)
-peel false k a n l xs bs ls rest o e g = (refl, e)
-
 module _ (mesh : List Float) (index : List ℕ) (boxes : List Float) (links : List ℕ) (nodes leaf-count : ℕ) (o : Outcome) (g : o .answer ≡ Grew nodes leaf-count) where
   pub record Passed : Type 0 where
     pub whole : length mesh % 12 ≡ 0
-    pub few : length mesh / 12 ≤ most-triangles
-    pub index-room : length mesh / 12 ≤ length index
-    pub box-room : room (length mesh / 12) ≤ length boxes / 6
-    pub link-room : room (length mesh / 12) ≤ length links / 3
-    pub rest : checked mesh (length mesh / 12) (firstRefused mesh 0 (length mesh / 12)) index boxes links ≡ o
+    pub few : triangleCount mesh ≤ most-triangles
+    pub index-room : triangleCount mesh ≤ length index
+    pub box-room : room (triangleCount mesh) ≤ length boxes / 6
+    pub link-room : room (triangleCount mesh) ≤ length links / 3
+    pub all-admitted : firstRefused mesh 0 (triangleCount mesh) ≡ Nothing
+    pub rest : finished (triangleCount mesh) (grow mesh deepest 0 (upTo (triangleCount mesh))) index boxes links ≡ o
 
   passed : built mesh index boxes links ≡ o → Passed
-  unfolding built cramped
+  unfolding built
   passed e =
-      let p1 = peel (not (eqb (length mesh % 12) 0)) 1 0 nodes leaf-count index boxes links _ o e g in
-      let p2 = peel (ltb most-triangles (length mesh / 12)) 2 (length mesh / 12) nodes leaf-count index boxes links _ o (p1 .1) g in
-      let p3 = peel (ltb (length index) (length mesh / 12)) 3 0 nodes leaf-count index boxes links _ o (p2 .1) g in
-      let p4 = peel (ltb (length boxes / 6) (room (length mesh / 12)) || ltb (length links / 3) (room (length mesh / 12))) 4 (room (length mesh / 12)) nodes leaf-count index boxes links _ o (p3 .1) g in
-      let r = neither (ltb (length boxes / 6) (room (length mesh / 12))) (ltb (length links / 3) (room (length mesh / 12))) (p4 .0) in
+      let p = all-passed _ _ _ o e (λ k a r. no-refusal k a nodes leaf-count (ap (λ (w : Outcome). w .answer) r ∙ g)) in
+      let q = p .0 in
       record {
-        whole = eqb-true (length mesh % 12) 0 (not-false (eqb (length mesh % 12) 0) (p1 .0));
-        few = ltb-false most-triangles (length mesh / 12) (p2 .0);
-        index-room = ltb-false (length index) (length mesh / 12) (p3 .0);
-        box-room = ltb-false (length boxes / 6) (room (length mesh / 12)) (r .0);
-        link-room = ltb-false (length links / 3) (room (length mesh / 12)) (r .1);
-        rest = p4 .1;
+        whole = eqb-true (length mesh % 12) 0 (not-false (eqb (length mesh % 12) 0) (q .0));
+        few = ltb-false most-triangles (triangleCount mesh) (q .1 .0);
+        index-room = ltb-false (length index) (triangleCount mesh) (q .1 .1 .0);
+        box-room = ltb-false (length boxes / 6) (room (triangleCount mesh)) (q .1 .1 .1 .0);
+        link-room = ltb-false (length links / 3) (room (triangleCount mesh)) (q .1 .1 .1 .1 .0);
+        all-admitted = none-unadmitted (firstRefused mesh 0 (triangleCount mesh)) (q .1 .1 .1 .1 .1 .0);
+        rest = p .1;
       }
-
-  fine-rest : (f : Unadmitted) → checked mesh (length mesh / 12) f index boxes links ≡ o → (f ≡ Nothing) × (finished (length mesh / 12) (grow mesh deepest 0 (upTo (length mesh / 12))) index boxes links ≡ o)
-  unfolding checked
-  fine-rest (At i) e = no-refusal 5 i nodes leaf-count (ap (λ (w : Outcome). w .answer) e ∙ g)
-  fine-rest Nothing e = (refl, e)
 
   grew-same : (a b c d : ℕ) → Grew a b ≡ Grew c d → (c ≡ a) × (d ≡ b)
   grew-same a b c d e = (cc, cc)
 
-  done : Passed → (w : Option Grown) → grow mesh deepest 0 (upTo (length mesh / 12)) ≡ w → firstRefused mesh 0 (length mesh / 12) ≡ Nothing → finished (length mesh / 12) w index boxes links ≡ o → Success mesh index boxes links nodes leaf-count o
+  done : Passed → (w : Option Grown) → grow mesh deepest 0 (upTo (triangleCount mesh)) ≡ w → finished (triangleCount mesh) w index boxes links ≡ o → Success mesh index boxes links nodes leaf-count o
   unfolding finished
-  done p none s f e = no-refusal 6 0 nodes leaf-count (ap (λ (w : Outcome). w .answer) e ∙ g)
-  done p (some t) s f e =
+  done p none s e = no-refusal 6 0 nodes leaf-count (ap (λ (w : Outcome). w .answer) e ∙ g)
+  done p (some t) s e =
       let a = grew-same (1 + below (t .tree)) (leaves (t .tree)) nodes leaf-count (ap (λ (w : Outcome). w .answer) e ∙ g) in
       record {
         whole = p .whole;
@@ -111,7 +98,7 @@ module _ (mesh : List Float) (index : List ℕ) (boxes : List Float) (links : Li
         index-room = p .index-room;
         box-room = p .box-room;
         link-room = p .link-room;
-        all-admitted = f;
+        all-admitted = p .all-admitted;
         grown = t;
         grew = s;
         nodes-are = a .0;
@@ -122,10 +109,7 @@ module _ (mesh : List Float) (index : List ℕ) (boxes : List Float) (links : Li
       }
 
   pub success : built mesh index boxes links ≡ o → Success mesh index boxes links nodes leaf-count o
-  success e =
-      let p = passed e in
-      let q = fine-rest (firstRefused mesh 0 (length mesh / 12)) (p .rest) in
-      done p (grow mesh deepest 0 (upTo (length mesh / 12))) refl (q .0) (q .1)
+  success e = let p = passed e in done p (grow mesh deepest 0 (upTo (triangleCount mesh))) refl (p .rest)
 
 -- ---- no numbers
 up-none : upTo 0 ≡ []

@@ -1,29 +1,28 @@
 -- Laws of the whole build. Assumes nothing.
 use mathlib.Core.Path.{_≡_, refl, sym, _∙_, ap}
-use Prim.Native.Nat.{ℕ, _+_, _*_, _-_, _/_, _%_, _≤_, _<_}
+use Prim.Native.Nat.{ℕ, _+_, _*_, _-_, _/_, _%_, _≤_}
 use native.Mathlib.Nat.{sub-zero}
 use native.Mathlib.Omega.{arith}
 use mathlib.Core.Option.{Option, none, some}
-use mathlib.Core.List.{List, _++_}
+use mathlib.Core.List.{List, [], _∷_, _++_}
 use lib.ListN.{length, take, drop, replicate, length-drop, length-append}
 use lib.Seq.{length-take-le, take-at, drop-at}
 use lib.Ieee.{Float}
-use borrow.Author.Tests.{eq-eqb, ne-eqb, le-ltb, lt-ltb}
 use borrow.Rule.Slice.PartMut.{postOf}
 use Rattle.float.specs.Number.{nought}
-use Rattle.triangle.specs.declared.Unadmitted.{Unadmitted}
-use Rattle.triangle.specs.declared.Unadmitted.the-variants.{At, Nothing}
-use Rattle.triangle.specs.Mesh.{firstRefused}
+use Rattle.triangle.specs.Mesh.{firstRefused, unadmitted}
 use Rattle.builder.specs.declared.Built.{Built}
 use Rattle.builder.specs.declared.Built.the-variants.{Refused, Tree as Grew}
 use Rattle.builder.specs.declared.division.Made.{Made}
 use Rattle.builder.specs.declared.division.Made.the-variants.{Deep, Next}
 use Rattle.lent.specs.Permutation.{upTo}
-use Rattle.builder.specs.Build.{Outcome, built, checked, cramped, finished, outcome, room}
+use Rattle.lent.specs.Ladder.{triangleCount}
+use Rattle.lent.proofs.Ladder.{Ends, ends, goes, agree, not-below}
+use Rattle.builder.specs.Build.{Outcome, built, finished, outcome, room}
 use Rattle.tree.proofs.Counts.{odd-size}
 use Rattle.builder.specs.Layout.{Divided, boxesOf, linksOf}
 use Rattle.lent.specs.Limits.{deepest, most-triangles}
-use Rattle.tree.specs.Tree.{Tree, below, internal, leaf, leaves}
+use Rattle.tree.specs.Tree.{Tree, below, leaves}
 use Rattle.builder.specs.Tree.{Grown, grow}
 use Rattle.builder.proofs.Growing.{never, next-same}
 
@@ -77,39 +76,8 @@ module _ (xs c : List ℕ) (n : ℕ) (h : n ≤ length xs) (e : length c ≡ len
       let a = length-append d (drop (n - 0) (c ++ drop (n - 0) xs)) in let b = ap length rest-again in let g = length-drop n xs in let f = ap length lent-again in let i = c-length in
       omega arith
 
--- ---- the tests of `build`, one after the other
-module _ (m : List Float) (xs : List ℕ) (bs : List Float) (ls : List ℕ) where
-  pub built-1 : (length m % 12 ≡ 0 → ⊥) → outcome (Refused 1 0) xs bs ls ≡ built m xs bs ls
-  unfolding built
-  built-1 h = rw (ne-eqb (length m % 12) 0 h)
-
-  pub built-2 : length m % 12 ≡ 0 → most-triangles < length m / 12 → outcome (Refused 2 (length m / 12)) xs bs ls ≡ built m xs bs ls
-  unfolding built
-  built-2 p h = rw (eq-eqb (length m % 12) 0 p, lt-ltb most-triangles (length m / 12) h)
-
-  module _ (p : length m % 12 ≡ 0) (q : length m / 12 ≤ most-triangles) where
-    pub built-3 : length xs < length m / 12 → outcome (Refused 3 0) xs bs ls ≡ built m xs bs ls
-    unfolding built
-    built-3 h = rw (eq-eqb (length m % 12) 0 p, le-ltb most-triangles (length m / 12) q, lt-ltb (length xs) (length m / 12) h)
-
-    module _ (r : length m / 12 ≤ length xs) (k : ℕ) (e : k ≡ room (length m / 12)) where
-      pub built-4 : length bs / 6 < k → outcome (Refused 4 k) xs bs ls ≡ built m xs bs ls
-      unfolding built cramped
-      built-4 h = rw (eq-eqb (length m % 12) 0 p, le-ltb most-triangles (length m / 12) q, le-ltb (length xs) (length m / 12) r, ← e, lt-ltb (length bs / 6) k h)
-
-      pub built-4′ : k ≤ length bs / 6 → length ls / 3 < k → outcome (Refused 4 k) xs bs ls ≡ built m xs bs ls
-      unfolding built cramped
-      built-4′ g h = rw (eq-eqb (length m % 12) 0 p, le-ltb most-triangles (length m / 12) q, le-ltb (length xs) (length m / 12) r, ← e, le-ltb (length bs / 6) k g, lt-ltb (length ls / 3) k h)
-
-      pub built-check : (f : Unadmitted) → k ≤ length bs / 6 → k ≤ length ls / 3 → f ≡ firstRefused m 0 (length m / 12) → checked m (length m / 12) f xs bs ls ≡ built m xs bs ls
-      unfolding built cramped
-      built-check f g h b = rw (eq-eqb (length m % 12) 0 p, le-ltb most-triangles (length m / 12) q, le-ltb (length xs) (length m / 12) r, ← e, le-ltb (length bs / 6) k g, le-ltb (length ls / 3) k h, b)
-
-      pub built-5 : (f : Unadmitted) (i : ℕ) → k ≤ length bs / 6 → k ≤ length ls / 3 → f ≡ firstRefused m 0 (length m / 12) → f ≡ At i → outcome (Refused 5 i) xs bs ls ≡ built m xs bs ls
-      unfolding checked
-      built-5 f i g h b w = ap (λ (z : Unadmitted). checked m (length m / 12) z xs bs ls) (sym w) ∙ built-check f g h b
-
-      pub built-6 : (f : Unadmitted) (o : Outcome) → k ≤ length bs / 6 → k ≤ length ls / 3 → f ≡ firstRefused m 0 (length m / 12) → f ≡ Nothing
-          → o ≡ finished (length m / 12) (grow m deepest 0 (upTo (length m / 12))) xs bs ls → o ≡ built m xs bs ls
-      unfolding checked
-      built-6 f o g h b w q = q ∙ ap (λ (z : Unadmitted). checked m (length m / 12) z xs bs ls) (sym w) ∙ built-check f g h b
+-- ---- where every check before that of refusal 5 passed
+pub past-room : (m : List Float) (xs : List ℕ) (bs : List Float) (ls : List ℕ) (k : ℕ) (x : Outcome) → length m % 12 ≡ 0 → triangleCount m ≤ most-triangles → triangleCount m ≤ length xs → k ≡ room (triangleCount m) → k ≤ length bs / 6 → k ≤ length ls / 3
+    → Ends (unadmitted (firstRefused m 0 (triangleCount m)) ∷ []) (λ number at. outcome (Refused number at) xs bs ls) (finished (triangleCount m) (grow m deepest 0 (upTo (triangleCount m))) xs bs ls) x → x ≡ built m xs bs ls
+unfolding built
+past-room m xs bs ls k x whole few listed e boxed linked rest = rw (← e) (ends (goes (agree whole) (goes (not-below few) (goes (not-below listed) (goes (not-below boxed) (goes (not-below linked) rest))))))

@@ -1,18 +1,16 @@
 -- What a build answers and leaves in the lent lists, on every input. Definitions only.
-use Prim.Native.Nat.{ℕ, zero, suc, _+_, _*_, _/_, _%_}
-use mathlib.Core.Bool.{Bool, cond, not, _||_}
+use Prim.Native.Nat.{ℕ, zero, suc, _+_, _*_, _/_}
 use mathlib.Core.Option.{Option, none, some}
 use mathlib.Core.List.{List, [], _∷_, _++_}
 use lib.ListN.{length, drop, replicate}
-use lib.Dec.{ltb, eqb}
+use lib.Dec.{ltb}
 use lib.Ieee.{Float}
 use Rattle.float.specs.Number.{nought}
-use Rattle.triangle.specs.declared.Unadmitted.{Unadmitted}
-use Rattle.triangle.specs.declared.Unadmitted.the-variants.{At, Nothing}
-use Rattle.triangle.specs.Mesh.{firstRefused}
+use Rattle.triangle.specs.Mesh.{firstRefused, unadmitted}
 use Rattle.builder.specs.declared.Built.{Built}
 use Rattle.builder.specs.declared.Built.the-variants.{Tree as Grew, Refused}
-use Rattle.lent.specs.Limits.{most-triangles, deepest}
+use Rattle.lent.specs.Limits.{deepest}
+use Rattle.lent.specs.Ladder.{check, unless, triangleCount, ragged, crowded}
 use Rattle.lent.specs.Permutation.{upTo}
 use Rattle.tree.specs.Tree.{below, leaves}
 use Rattle.builder.specs.Tree.{Grown, grow}
@@ -39,20 +37,16 @@ unfoldable pub finished : ℕ → Option Grown → List ℕ → List Float → L
 finished n none index boxes links = outcome (Refused 6 0) (replicate (length index) 0) (replicate (length boxes) nought) (replicate (length links) 0)
 finished n (some g) index boxes links = outcome (Grew (1 + below (g .tree)) (leaves (g .tree))) (g .ids ++ drop n index) (boxesOf (g .tree) 0 1 boxes) (linksOf (g .tree) 0 1 links)
 
--- 5, with the lowest number; then the tree, or 6
-unfoldable pub checked : List Float → ℕ → Unadmitted → List ℕ → List Float → List ℕ → Outcome
-checked mesh n (At i) index boxes links = outcome (Refused 5 i) index boxes links
-checked mesh n Nothing index boxes links = finished n (grow mesh deepest 0 (upTo n)) index boxes links
-
--- node room below R in boxes or links
-unfoldable pub cramped : ℕ → List Float → List ℕ → Bool
-cramped r boxes links = ltb (length boxes / 6) r || ltb (length links / 3) r
-
--- Build order: 1, 2, 3, 4, 5 (lowest number), 6. Refusals 1 to 5 leave all buffers unchanged
+-- Build order: 1, 2, 3, 4 (node room below R in boxes or links), 5, 6. Refusals 1 to 5 leave all buffers unchanged
 unfoldable pub built : List Float → List ℕ → List Float → List ℕ → Outcome
 built mesh index boxes links =
-    cond (not (eqb (length mesh % 12) 0)) (outcome (Refused 1 0) index boxes links)
-    (cond (ltb most-triangles (length mesh / 12)) (outcome (Refused 2 (length mesh / 12)) index boxes links)
-    (cond (ltb (length index) (length mesh / 12)) (outcome (Refused 3 0) index boxes links)
-    (cond (cramped (room (length mesh / 12)) boxes links) (outcome (Refused 4 (room (length mesh / 12))) index boxes links)
-    (checked mesh (length mesh / 12) (firstRefused mesh 0 (length mesh / 12)) index boxes links))))
+    unless
+    (ragged mesh
+    ∷ crowded mesh
+    ∷ check (ltb (length index) (triangleCount mesh)) 3 0
+    ∷ check (ltb (length boxes / 6) (room (triangleCount mesh))) 4 (room (triangleCount mesh))
+    ∷ check (ltb (length links / 3) (room (triangleCount mesh))) 4 (room (triangleCount mesh))
+    ∷ unadmitted (firstRefused mesh 0 (triangleCount mesh))
+    ∷ [])
+    (λ number at. outcome (Refused number at) index boxes links)
+    (finished (triangleCount mesh) (grow mesh deepest 0 (upTo (triangleCount mesh))) index boxes links)

@@ -20,8 +20,8 @@ use Rattle.builder.specs.Build.{Outcome, outcome}
 use Rattle.walk.specs.declared.Answer.{Answer}
 use Rattle.walk.specs.declared.Answer.the-variants.{Struck, Missed, Refused}
 use Rattle.walk.specs.Answer.{Told, told}
-use Rattle.walk.specs.declared.rays.Filled.{Filled}
-use Rattle.walk.specs.Sky.{Outcome as Filling, outcome as filling}
+use Rattle.sky.specs.declared.Filled.{Filled}
+use Rattle.sky.specs.Sky.{Filling, filling}
 
 -- Every public call of `float`, `aabb` and `triangle` but those of `Corners` and `refill_normals` promises `r ≡ d`, with d a definition of what it was given: two
 -- answers r and r' that the promise allows are equal.

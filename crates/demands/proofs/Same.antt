@@ -20,7 +20,8 @@ use Rattle.builder.specs.declared.Built.the-variants.{Tree, Refused}
 use Rattle.builder.specs.declared.split.SplitDecision.{SplitDecision}
 use Rattle.builder.specs.declared.split.SplitDecision.the-variants.{Split, MakeLeaf}
 use Rattle.builder.specs.Build.{Outcome, outcome}
-use Rattle.walk.specs.Answer.{Told, Refusal, none, numbered}
+use Rattle.lent.specs.Ladder.{Refusal, none, numbered}
+use Rattle.walk.specs.Answer.{Told}
 
 -- ---- numbers
 bool-is : (x y : Bool) → T (Bool·beq x y) → x ≡ y

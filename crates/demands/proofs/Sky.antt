@@ -9,7 +9,7 @@ use lib.ListN.{length, drop}
 use lib.Ieee.{Float}
 use Rattle.float.specs.Number.{nought}
 use Rattle.aabb.specs.declared.vector.Ray.{Ray}
-use Rattle.aabb.specs.Vector.{admittedRay}
+use Rattle.aabb.specs.Vector.{admittedRay, rayAt}
 use Rattle.triangle.specs.declared.Hit.{Hit}
 use Rattle.triangle.specs.declared.Found.{Found}
 use Rattle.triangle.specs.declared.Found.the-variants.{At, Nothing}
@@ -17,15 +17,16 @@ use Rattle.builder.specs.declared.Built.{Built}
 use Rattle.builder.specs.declared.Built.the-variants.{Tree as Grew, Refused}
 use Rattle.builder.specs.Build.{Outcome, built}
 use Rattle.builder.proofs.Successes.{success, accepted as accepted-lists}
-use Rattle.walk.specs.declared.rays.Filled.the-variants.{Places}
-use Rattle.walk.specs.declared.rays.Place.{Place}
+use Rattle.sky.specs.declared.Filled.the-variants.{Places}
+use Rattle.sky.specs.declared.Place.{Place}
 use Rattle.walk.specs.Lent.{Lent, most-triangles, triangleCount}
-use Rattle.walk.specs.Answer.{Told, none}
+use Rattle.lent.specs.Ladder.{none}
+use Rattle.lent.specs.Flat.{records}
+use Rattle.walk.specs.Answer.{Told}
 use Rattle.walk.specs.Walk.{walk}
 use Rattle.walk.specs.Tree.{Tree}
-use Rattle.walk.specs.Sky.{rayCount, rayAt, placed, placeOf, places, timesOf, toldOf, placeAt, Outcome as Filling, outcome, sky}
-use Rattle.walk.proofs.Room.{place-k}
-use Rattle.walk.proofs.Whole.{sky-filled}
+use Rattle.sky.specs.Sky.{rayCount, placed, placeOf, timesFor, toldFor, placeAt, Filling, filling, sky}
+use Rattle.sky.proofs.Room.{place-k, filled-is, served}
 use Rattle.demands.specs.Handed.{handedAs, handed}
 use Rattle.demands.specs.Demand.{Demand3}
 use Rattle.demands.specs.Sky.{Demand3At, SignedPlace, SignedSky}
@@ -87,8 +88,8 @@ module _ (mesh : List Float) (index : List ℕ) (boxes : List Float) (links : Li
   abbrev s : Lent
   s = handed mesh (built mesh index boxes links)
 
-  abbrev filling : Filling
-  filling = outcome Places (timesOf (places s rays (rayCount rays)) ++ drop (rayCount rays) times) (toldOf (places s rays (rayCount rays)) ++ drop (rayCount rays * 4) told)
+  abbrev full : Filling
+  full = filling Places (records (timesFor s rays) (rayCount rays) ++ drop (rayCount rays) times) (records (toldFor s rays) (rayCount rays) ++ drop (rayCount rays * 4) told)
 
   -- Demand 3 reads for each place: an unchanged built tree over its own triangles, rays in sixes, answer room that suffices, and each ray that is admitted, whatever the others are.
   pub built-sky : built mesh index boxes links .answer ≡ Grew nodes leaf-count → length rays % 6 ≡ 0 → rayCount rays ≤ length times → rayCount rays * 4 ≤ length told
@@ -98,10 +99,10 @@ module _ (mesh : List Float) (index : List ℕ) (boxes : List Float) (links : Li
       let m = handed-mesh mesh (built mesh index boxes links) in
       let whole : length (s .triangles) % 12 ≡ 0 = ap (λ (l : List Float). length l % 12) m ∙ A .walkable .whole in
       let few : triangleCount (s .triangles) ≤ most-triangles = omega (arith, ap (λ (l : List Float). length l / 12) m, A .walkable .few) in
-      let is : filling ≡ sky s rays times told = sky-filled s rays times told whole few sixes timed roomy _ _ refl refl in
+      let is : full ≡ sky s rays times told = filled-is s rays (rayCount rays) times _ told _ refl refl ∙ served s rays times told whole few sixes timed roomy in
       rw (← is) (record { served = refl; each = place })
     where
-      place : (k : ℕ) → k < rayCount rays → T (admittedRay (rayAt rays k)) → SignedPlace s nodes leaf-count (rayAt rays k) (placeAt (filling .times) (filling .told) k)
+      place : (k : ℕ) → k < rayCount rays → T (admittedRay (rayAt rays k)) → SignedPlace s nodes leaf-count (rayAt rays k) (placeAt (full .times) (full .told) k)
       place k h R =
           let w = built-walk mesh index boxes links nodes leaf-count (rayAt rays k) e R in
-          record { walked = w; told = demand-3-at s (w .tree) (rayAt rays k) (w .answer) (placeAt (filling .times) (filling .told) k) (place-k s rays times told (rayCount rays) k h) }
+          record { walked = w; told = demand-3-at s (w .tree) (rayAt rays k) (w .answer) (placeAt (full .times) (full .told) k) (place-k s rays times told (rayCount rays) k h) }

@@ -8,7 +8,7 @@ use Rattle.aabb.specs.declared.vector.Ray.{Ray}
 use Rattle.triangle.specs.declared.Hit.{Hit}
 use Rattle.triangle.specs.declared.Found.the-variants.{At, Nothing}
 use Rattle.walk.specs.Lent.{Lent, triangleCount}
-use Rattle.walk.specs.Answer.{none}
+use Rattle.lent.specs.Ladder.{none}
 use Rattle.walk.specs.Walk.{walk}
 use Rattle.walk.specs.Tree.{Tree, size, leaves, Holds, Accepted, entered, reached}
 use Rattle.walk.specs.Leaves.{leavesOf, SameLeaves, withIndex, Reordered}

@@ -22,7 +22,8 @@ use Rattle.builder.specs.Tree.{decision}
 use Rattle.lent.specs.Permutation.{upTo}
 use Rattle.builder.specs.Build.{Outcome, outcome, room, built}
 use Rattle.walk.specs.Lent.{triangleCount}
-use Rattle.walk.specs.Answer.{Told, none}
+use Rattle.lent.specs.Ladder.{none}
+use Rattle.walk.specs.Answer.{Told}
 use Rattle.walk.specs.Walk.{walk}
 use Rattle.demands.specs.Handed.{handed}
 

@@ -7,14 +7,14 @@ use lib.Dec.{T}
 use lib.ListN.{length}
 use lib.Ieee.{Float}
 use Rattle.aabb.specs.declared.vector.Ray.{Ray}
-use Rattle.aabb.specs.Vector.{admittedRay}
+use Rattle.aabb.specs.Vector.{admittedRay, rayAt}
 use Rattle.triangle.specs.declared.Hit.{Hit}
-use Rattle.walk.specs.declared.rays.Place.{Place}
-use Rattle.walk.specs.declared.rays.Filled.the-variants.{Places}
+use Rattle.sky.specs.declared.Place.{Place}
+use Rattle.sky.specs.declared.Filled.the-variants.{Places}
 use Rattle.walk.specs.Lent.{Lent, triangleCount}
 use Rattle.walk.specs.Tree.{Tree, leaves, entered, reached}
 use Rattle.walk.specs.NearestHit.{All, NearestAt, NothingAt}
-use Rattle.walk.specs.Sky.{rayCount, rayAt, placeAt, Outcome as Filling}
+use Rattle.sky.specs.Sky.{rayCount, placeAt, Filling}
 use Rattle.demands.specs.Demand.{Signed}
 
 -- the place tells the triangle and t of the nearest

@@ -2,15 +2,15 @@
 -- the width. A list with a record written is its front, the record and its rest (`sets-eq` of the kit). Assumes nothing.
 use mathlib.Core.Path.{_≡_, refl, sym, ap, _∙_}
 use mathlib.Core.Logic.{_⊎_, inl, inr, ⊎-elim}
-use mathlib.Core.List.{List, [], _∷_, _++_, flatMap, append-assoc, append-nil}
+use mathlib.Core.List.{List, [], _∷_, _++_, append-assoc}
 use Prim.Native.Nat.{ℕ, zero, suc, _+_, _*_, _-_, _≤_, _<_}
 use native.Mathlib.Nat.{suc-mul, zero-mul, mul-le-mul-right}
 use native.Mathlib.Numerals.{add-one}
 use native.Mathlib.Omega.{arith}
 use native.Mathlib.Decide.{ℕ-discrete, decLt}
-use lib.ListN.{length, getD, set, take, drop, length-set, length-append, length-drop, List·getD-append}
-use lib.Seq.{sets, sets-eq, length-sets, take-at, drop-at, drop-append-add, drop-drop, length-take-le, getD-take, getD-drop, getD-append-add, getD-append-seam, getD-set-other, drop-set-lt, drop-set-add, take-set-le}
-use Rattle.lent.specs.Flat.{recordAt, put, firstOf}
+use lib.ListN.{length, getD, set, take, drop, length-append, length-drop, List·getD-append}
+use lib.Seq.{sets, sets-eq, length-sets, take-at, drop-at, drop-drop, length-take-le, getD-take, getD-drop, getD-append-add, getD-set-other, drop-set-lt, drop-set-add, take-set-le}
+use Rattle.lent.specs.Flat.{recordAt, put, records}
 
 module _ {A : Type 0} where
   -- ---- as code writes a record: its first number at a place, the others at so much more
@@ -103,54 +103,28 @@ module _ {A : Type 0} where
       ∙ ap (λ (z : List A). done ++ vs ++ z)
       (sym (drop-drop (length vs) n rest) ∙ ap (λ (z : List A). drop (length vs) z) (drop-at done (drop n room) n l) ∙ drop-drop (length vs) n room ∙ ap (λ (q : ℕ). drop q room) (sym e))
 
--- ---- what is found for each, one after the other
-module _ {B : Type 0} (f : ℕ → B) where
-  pub first-length : (n : ℕ) → length (firstOf f n) ≡ n
-  unfolding firstOf
-  first-length zero = refl
-  first-length (suc n) = omega (arith, length-append (firstOf f n) (f n ∷ []), first-length n)
+  module _ (f : ℕ → List A) where
+    -- one more record
+    pub fill-more : (room : List A) (i n m : ℕ) → length (records f i) ≡ n → m ≡ n + length (f i) → m ≤ length room → sets (records f i ++ drop n room) n (f i) ≡ records f (i + 1) ++ drop m room
+    unfolding records
+    fill-more room i n m l e h = fills (records f i) room (f i) n m l e h ∙ ap (λ (k : ℕ). records f k ++ drop m room) (sym (add-one i))
 
-  pub one-more : (n : ℕ) → firstOf f (n + 1) ≡ firstOf f n ++ (f n ∷ [])
-  unfolding firstOf
-  one-more n = ap (λ (k : ℕ). firstOf f k) (add-one n)
+    module _ (width : ℕ) (wide : (i : ℕ) → length (f i) ≡ width) where
+      pub records-length : (n : ℕ) → length (records f n) ≡ n * width
+      unfolding records
+      records-length zero = omega (arith, zero-mul width)
+      records-length (suc n) = omega (arith, length-append (records f n) (f n), wide n, records-length n, suc-mul n width)
 
-  pub first-at : (n k : ℕ) (d : B) → k < n → getD (firstOf f n) k d ≡ f k
-  unfolding firstOf
-  first-at zero k d h = absurd (omega arith)
-  first-at (suc n) k d h =
-      elim (ℕ-discrete k n) [
-        | yes e ↦ ap (λ (j : ℕ). getD (firstOf f n ++ (f n ∷ [])) j d) (e ∙ sym (first-length n)) ∙ getD-append-seam (firstOf f n) (f n) [] d ∙ ap f (sym e)
-        | no o ↦ List·getD-append (firstOf f n) (f n ∷ []) d k (omega (arith, first-length n)) ∙ first-at n k d (omega arith)
-      ]
-
-module _ {A B : Type 0} (g : B → List A) (width : ℕ) (wide : (b : B) → length (g b) ≡ width) where
-  pub flat-length : (bs : List B) → length (flatMap g bs) ≡ length bs * width
-  unfolding flatMap
-  flat-length [] = omega arith
-  flat-length (b ∷ bs) = omega (arith, length-append (g b) (flatMap g bs), wide b, flat-length bs, suc-mul (length bs) width)
-
-  -- number p of records written out is number k of record i, whatever stands behind
-  pub flat-at : (bs : List B) (rest : List A) (i p k : ℕ) (o : B) (d : A) → i < length bs → k < width → p ≡ i * width + k → getD (flatMap g bs ++ rest) p d ≡ getD (g (getD bs i o)) k d
-  unfolding flatMap
-  flat-at [] rest i p k o d h l e = absurd (omega arith)
-  flat-at (b ∷ bs) rest zero p k o d h l e =
-      ap (λ (z : List A). getD z p d) (append-assoc (g b) (flatMap g bs) rest)
-      ∙ List·getD-append (g b) (flatMap g bs ++ rest) d p (omega (arith, wide b, zero-mul width))
-      ∙ ap (λ (q : ℕ). getD (g b) q d) (omega (arith, zero-mul width))
-  flat-at (b ∷ bs) rest (suc i) p k o d h l e =
-      let q : p ≡ length (g b) + (i * width + k) = omega (arith, wide b, suc-mul i width) in
-      ap (λ (z : List A). getD z p d) (append-assoc (g b) (flatMap g bs) rest)
-      ∙ ap (λ (j : ℕ). getD (g b ++ (flatMap g bs ++ rest)) j d) q
-      ∙ getD-append-add (g b) (flatMap g bs ++ rest) (i * width + k) d
-      ∙ flat-at bs rest i (i * width + k) k o d (omega arith) l refl
-
-flat-more : {A B : Type 0} (g : B → List A) (bs : List B) (b : B) → flatMap g (bs ++ (b ∷ [])) ≡ flatMap g bs ++ g b
-unfolding flatMap
-flat-more g [] b = append-nil (g b)
-flat-more g (x ∷ bs) b = ap (λ (z : List _). g x ++ z) (flat-more g bs b) ∙ sym (append-assoc (g x) (flatMap g bs) (g b))
-
--- the records of the first i, written from the front: one more
-pub fill-more : {A B : Type 0} (g : B → List A) (f : ℕ → B) (room : List A) (i n m : ℕ) → length (flatMap g (firstOf f i)) ≡ n → m ≡ n + length (g (f i)) → m ≤ length room
-    → sets (flatMap g (firstOf f i) ++ drop n room) n (g (f i)) ≡ flatMap g (firstOf f (i + 1)) ++ drop m room
-fill-more g f room i n m l e h =
-    fills (flatMap g (firstOf f i)) room (g (f i)) n m l e h ∙ ap (λ (z : List _). z ++ drop m room) (sym (ap (flatMap g) (one-more f i) ∙ flat-more g (firstOf f i) (f i)))
+      -- number p of the list is number k of record i, whatever stands behind
+      pub records-at : (n : ℕ) (rest : List A) (i p k : ℕ) (d : A) → i < n → k < width → p ≡ i * width + k → getD (records f n ++ rest) p d ≡ getD (f i) k d
+      unfolding records
+      records-at zero rest i p k d h l e = absurd (omega arith)
+      records-at (suc n) rest i p k d h l e =
+          ap (λ (z : List A). getD z p d) (append-assoc (records f n) (f n) rest)
+          ∙ elim (ℕ-discrete i n) [
+            | yes s ↦ ap (λ (q : ℕ). getD (records f n ++ (f n ++ rest)) q d) (last s) ∙ getD-append-add (records f n) (f n ++ rest) k d ∙ List·getD-append (f n) rest d k (omega (arith, wide n)) ∙ ap (λ (j : ℕ). getD (f j) k d) (sym s)
+            | no o ↦ records-at n (f n ++ rest) i p k d (omega arith) l e
+          ]
+        where
+          last : i ≡ n → p ≡ length (records f n) + k
+          last s = omega (arith, records-length n, ap (λ (j : ℕ). j * width) s)

@@ -1,12 +1,13 @@
 -- A call's answer is read off its ladder check by check: one that fails stops, one that passes goes on, and where none is left the call is
 -- served. So the proof of a return is a chain, `ends (goes .. (goes .. (stops ..)))`, of what the code's tests said. Assumes nothing.
 use mathlib.Core.Path.{_≡_, refl, ap}
-use mathlib.Core.Bool.{Bool, true, false, not}
+use mathlib.Core.Bool.{Bool, true, false, cond, not}
 use mathlib.Core.List.{List, [], _∷_}
 use Prim.Native.Nat.{ℕ, _≤_, _<_}
 use borrow.Author.Tests.{eq-eqb, ne-eqb, lt-ltb, le-ltb}
 use lib.Dec.{eqb, ltb}
-use Rattle.lent.specs.Ladder.{Check, check, firstFailed, answered, unless}
+use Rattle.lent.specs.Ladder.{Check, numbered, check, firstFailed, answered, unless}
+use Rattle.lent.specs.Members.{Every}
 
 -- x is what a call with these checks answers
 pub record Ends {A : Type 0} (checks : List Check) (refused : ℕ → ℕ → A) (served x : A) : Type 0 where
@@ -26,6 +27,18 @@ stops p e = record { so = rw p e }
 pub goes : {A : Type 0} {checks : List Check} {refused : ℕ → ℕ → A} {served x : A} {t : Bool} {number at : ℕ} → t ≡ false → Ends checks refused served x → Ends (check t number at ∷ checks) refused served x
 unfolding unless firstFailed answered
 goes p e = record { so = rw p (e .so) }
+
+-- the other way round: where the answer is no refusal, every check passed, and it is what is served
+pub all-passed : {A : Type 0} (checks : List Check) (refused : ℕ → ℕ → A) (served x : A) → unless checks refused served ≡ x → ((number at : ℕ) → refused number at ≡ x → ⊥)
+    → Every (λ c. c .fails ≡ false) checks × (served ≡ x)
+unfolding unless firstFailed answered
+all-passed [] refused served x e never = (tt, e)
+all-passed (c ∷ cs) refused served x e never = go (c .fails) e (λ f. all-passed cs refused served x f never)
+  where
+    go : (t : Bool) → answered (cond t (numbered (c .number) (c .at)) (firstFailed cs)) refused served ≡ x → (answered (firstFailed cs) refused served ≡ x → Every (λ d. d .fails ≡ false) cs × (served ≡ x))
+        → ((t ≡ false) × Every (λ d. d .fails ≡ false) cs) × (served ≡ x)
+    go true f rest = absurd (never (c .number) (c .at) f)
+    go false f rest = ((refl, rest f .0), rest f .1)
 
 -- ---- what the tests of code say of those of a check
 pub differ : {a b : ℕ} → (a ≡ b → ⊥) → not (eqb a b) ≡ true

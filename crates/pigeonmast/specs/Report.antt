@@ -3,10 +3,8 @@ use Prim.Native.Nat.{ℕ}
 use mathlib.Core.Bool.{cond}
 use mathlib.Core.List.{List, [], _∷_}
 use lib.Ieee.{Float}
-use Rattle.aabb.specs.declared.vector.Ray.{Ray}
 use Rattle.aabb.specs.declared.slab.Span.{Span}
 use Rattle.aabb.specs.declared.slab.Span.the-variants.{Passed, Missed}
-use Rattle.aabb.specs.Vector.{vectorAt}
 use Rattle.triangle.specs.declared.Triangle.{Triangle}
 use Rattle.triangle.specs.declared.Hit.{Hit}
 use Rattle.triangle.specs.declared.Found.{Found}
@@ -17,16 +15,13 @@ use Rattle.triangle.specs.Refilled.{Outcome as Refilling}
 use Rattle.builder.specs.declared.Built.{Built}
 use Rattle.builder.specs.declared.Built.the-variants.{Tree, Refused}
 use Rattle.builder.specs.Build.{Outcome}
-use Rattle.walk.specs.Answer.{Refusal, none, numbered, Told}
-use Rattle.walk.specs.declared.rays.Filled.{Filled}
-use Rattle.walk.specs.declared.rays.Filled.the-variants.{Places, Refused as Unfilled}
-use Rattle.walk.specs.Sky.{Outcome as Filling}
+use Rattle.lent.specs.Ladder.{Refusal, none, numbered}
+use Rattle.walk.specs.Answer.{Told}
+use Rattle.sky.specs.declared.Filled.{Filled}
+use Rattle.sky.specs.declared.Filled.the-variants.{Places, Refused as Unfilled}
+use Rattle.sky.specs.Sky.{Filling}
 
 -- ---- what passes as numbers
--- a ray: origin, direction
-unfoldable pub rayOf : List Float → Ray
-rayOf numbers = record { origin = vectorAt numbers 0; direction = vectorAt numbers 3 }
-
 -- numbers = t, point, normal
 unfoldable pub hitNumbers : Hit → List Float
 hitNumbers h =

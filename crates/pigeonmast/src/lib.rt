@@ -6,15 +6,15 @@ use aabb::Ray;
 use aabb::Span;
 use aabb::Vec3;
 use builder::Built;
+use sky::Filled;
 use triangle::Found;
 use triangle::Hit;
 use triangle::Refill;
 use triangle::Triangle;
 use walk::Answer;
-use walk::Filled;
 ghost use mathlib.Core.Path.{_≡_};
 ghost use Rattle.float.specs.Root.{root};
-ghost use Rattle.aabb.specs.Vector.{vectorAt};
+ghost use Rattle.aabb.specs.Vector.{vectorAt, rayAt};
 ghost use Rattle.aabb.specs.Bounds.{boxAt};
 ghost use Rattle.aabb.specs.Slab.{slab};
 ghost use Rattle.triangle.specs.Mesh.{triangleAt};
@@ -25,17 +25,8 @@ ghost use Rattle.builder.specs.Build.{built};
 ghost use Rattle.walk.specs.Lent.{lent};
 ghost use Rattle.walk.specs.Answer.{told as answered};
 ghost use Rattle.walk.specs.Walk as scene;
-ghost use Rattle.walk.specs.Sky.{sky as filling};
-ghost use Rattle.pigeonmast.specs.Report.{rayOf, hitNumbers, frontNumber, sideNumber, build, buildAnswer, buildTold, buildReport, walk, walked, sky, skyAnswer, skyAt, skyReport, test, slabReport, triangleReport, triangleNumbers, normals, normalsAnswer, normalsTold, normalsReport};
-
-// A ray from its six numbers: origin, direction.
-fn ray_of(numbers: &[f64; 6]) -> Ray
-    ensures { λ r. ⌜ r ≡ rayOf (now (numbers .entry)) ⌝ }
-{
-    let origin = Vec3::read(numbers, 0);
-    let direction = Vec3::read(numbers, 3);
-    Ray { origin, direction }
-}
+ghost use Rattle.sky.specs.Sky.{sky as filled};
+ghost use Rattle.pigeonmast.specs.Report.{hitNumbers, frontNumber, sideNumber, build, buildAnswer, buildTold, buildReport, walk, walked, sky, skyAnswer, skyAt, skyReport, test, slabReport, triangleReport, triangleNumbers, normals, normalsAnswer, normalsTold, normalsReport};
 
 // A hit's seven numbers: t, point, normal.
 fn hit_numbers(hit: Hit) -> [f64; 7]
@@ -217,15 +208,15 @@ pub extern "C" fn pigeonmast_walk(
     numbers: &mut [f64; 7],
     told: &mut [u64; 4],
 ) -> u32
-    ensures { λ r. ⌜ walk r (now (numbers .exit)) (now (told .exit)) ≡ walked (scene.walk (lent (now (triangles .entry)) (now (index .entry)) (now (boxes .entry)) (now (links .entry))) (rayOf (now (ray .entry)))) (now (numbers .entry)) ⌝ }
+    ensures { λ r. ⌜ walk r (now (numbers .exit)) (now (told .exit)) ≡ walked (scene.walk (lent (now (triangles .entry)) (now (index .entry)) (now (boxes .entry)) (now (links .entry))) (rayAt (now (ray .entry)) 0)) (now (numbers .entry)) ⌝ }
 {
-    let answer = walk::walk(triangles, index, boxes, links, ray_of(ray));
+    let answer = walk::walk(triangles, index, boxes, links, Ray::read(ray, 0));
     tell_walk(answer, numbers, told)
 }
 
 // Walks every ray of `rays` (six numbers each: origin, direction) through the tree. 0 and at = 0: times has t of each ray's hit, else 0, and told
 // four numbers a ray: outcome (0 a miss, 100 a hit, else the refusal number), triangle or the refusal's at, box tests, triangle tests; room beyond
-// the rays stays. Or refusal 1, 2, 14 or 13 of the whole call (`walk::sky`) with its at; times and told stay unchanged.
+// the rays stays. Or refusal 1, 2, 14 or 13 of the whole call (`sky::sky`) with its at; times and told stay unchanged.
 #[no_mangle]
 pub extern "C" fn pigeonmast_sky(
     triangles: &[f64],
@@ -237,18 +228,18 @@ pub extern "C" fn pigeonmast_sky(
     told: &mut [u64],
     at: &mut [u64; 1],
 ) -> u32
-    ensures { λ r. ⌜ sky r (now (at .exit)) (now (times .exit)) (now (told .exit)) ≡ skyReport (filling (lent (now (triangles .entry)) (now (index .entry)) (now (boxes .entry)) (now (links .entry))) (now (rays .entry)) (now (times .entry)) (now (told .entry))) ⌝ }
+    ensures { λ r. ⌜ sky r (now (at .exit)) (now (times .exit)) (now (told .exit)) ≡ skyReport (filled (lent (now (triangles .entry)) (now (index .entry)) (now (boxes .entry)) (now (links .entry))) (now (rays .entry)) (now (times .entry)) (now (told .entry))) ⌝ }
 {
-    let answer = walk::sky(triangles, index, boxes, links, rays, times, told);
+    let answer = sky::sky(triangles, index, boxes, links, rays, times, told);
     tell_sky(answer, at)
 }
 
 // The slab test of a box (min x, y, z, max x, y, z) and a ray (origin, direction). 1 and times = enter, exit; or 0 and times unchanged.
 #[no_mangle]
 pub extern "C" fn pigeonmast_slab(bounds: &[f64; 6], ray: &[f64; 6], times: &mut [f64; 2]) -> u32
-    ensures { λ r. ⌜ test r (now (times .exit)) ≡ slabReport (slab (rayOf (now (ray .entry))) (boxAt (now (bounds .entry)) 0)) (now (times .entry)) ⌝ }
+    ensures { λ r. ⌜ test r (now (times .exit)) ≡ slabReport (slab (rayAt (now (ray .entry)) 0) (boxAt (now (bounds .entry)) 0)) (now (times .entry)) ⌝ }
 {
-    let span = Aabb::read(bounds, 0).intersect_ray(ray_of(ray));
+    let span = Aabb::read(bounds, 0).intersect_ray(Ray::read(ray, 0));
     tell_slab(span, times)
 }
 
@@ -260,9 +251,9 @@ pub extern "C" fn pigeonmast_triangle(
     ray: &[f64; 6],
     numbers: &mut [f64; 7],
 ) -> u32
-    ensures { λ r. ⌜ test r (now (numbers .exit)) ≡ triangleReport (strike (rayOf (now (ray .entry))) (triangleAt (now (triangle .entry)) 0) 0) (now (numbers .entry)) ⌝ }
+    ensures { λ r. ⌜ test r (now (numbers .exit)) ≡ triangleReport (strike (rayAt (now (ray .entry)) 0) (triangleAt (now (triangle .entry)) 0) 0) (now (numbers .entry)) ⌝ }
 {
-    let found = Triangle::read(triangle, 0).intersect(ray_of(ray), 0);
+    let found = Triangle::read(triangle, 0).intersect(Ray::read(ray, 0), 0);
     tell_triangle(found, numbers)
 }
 

@@ -4,7 +4,8 @@ use mathlib.Core.List.{List, [], _∷_, _++_}
 use lib.Ieee.{binary64, toBits}
 use Rattle.triangle.specs.declared.Found.{Found}
 use Rattle.triangle.specs.declared.Found.the-variants.{At, Nothing}
-use Rattle.walk.specs.Answer.{Refusal, none, numbered, Told}
+use Rattle.lent.specs.Ladder.{Refusal, none, numbered}
+use Rattle.walk.specs.Answer.{Told}
 use Rattle.report.specs.Text.{hexadecimal, newline, named, pair}
 
 -- Cut, overlong or over the limit: the one line `bad input`

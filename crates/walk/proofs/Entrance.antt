@@ -1,10 +1,10 @@
--- The refusals before the first step, each from the tests that code makes, and what links that are no misfit give. Assumes nothing.
-use mathlib.Core.Path.{_≡_}
+-- What links that are no misfit give, and that a walk which no check refuses is its steps. Assumes nothing.
+use mathlib.Core.Path.{_≡_, refl, ap}
 use mathlib.Core.Bool.{true, false, not, _||_}
 use mathlib.Core.List.{List, [], _∷_}
 use Prim.Native.Nat.{ℕ, _*_, _%_, _≤_, _<_}
 use native.Mathlib.Omega.{arith}
-use borrow.Author.Tests.{eqb-false, eqb-true, ltb-false, not-false, eq-eqb, ne-eqb, lt-ltb, le-ltb}
+use borrow.Author.Tests.{eqb-false, eqb-true, ltb-false, not-false}
 use lib.Dec.{eqb, ltb}
 use lib.ListN.{length}
 use lib.Ieee.{Float}
@@ -12,7 +12,8 @@ use Rattle.float.proofs.Cases.{neither}
 use Rattle.aabb.specs.declared.vector.Ray.{Ray}
 use Rattle.aabb.specs.Vector.{admittedRay}
 use Rattle.walk.specs.Lent.{Lent, triangleCount, most-triangles, nodeCount, most-nodes}
-use Rattle.walk.specs.Walk.{misfit, start, refused, run, walk}
+use Rattle.walk.specs.Walk.{misfit, start, run, walk}
+use Rattle.lent.proofs.Ladder.{ends, goes, serves, agree, not-below}
 
 pub fitting : (boxes : List Float) (links : List ℕ) → misfit boxes links ≡ false → (0 < nodeCount links) × (nodeCount links ≤ most-nodes)
 unfolding misfit
@@ -25,26 +26,8 @@ fitting boxes links h =
     let z : n ≡ 0 → ⊥ = eqb-false n 0 (a .0) in
     (omega arith, ltb-false most-nodes (nodeCount links) (c .0))
 
-module _ (s : Lent) (r : Ray) where
-  pub ragged : (length (s .triangles) % 12 ≡ 0 → ⊥) → refused 1 0 ≡ walk s r
-  unfolding walk
-  ragged h = rw (ne-eqb (length (s .triangles) % 12) 0 h)
-
-  module _ (whole : length (s .triangles) % 12 ≡ 0) where
-    pub many : most-triangles < triangleCount (s .triangles) → refused 2 (triangleCount (s .triangles)) ≡ walk s r
-    unfolding walk
-    many h = rw (eq-eqb (length (s .triangles) % 12) 0 whole, lt-ltb most-triangles (triangleCount (s .triangles)) h)
-
-    module _ (few : triangleCount (s .triangles) ≤ most-triangles) where
-      pub not-admitted : admittedRay r ≡ false → refused 7 0 ≡ walk s r
-      unfolding walk
-      not-admitted h = rw (eq-eqb (length (s .triangles) % 12) 0 whole, le-ltb most-triangles (triangleCount (s .triangles)) few, h)
-
-      module _ (ray : admittedRay r ≡ true) where
-        pub ill-fitted : misfit (s .boxes) (s .links) ≡ true → refused 8 0 ≡ walk s r
-        unfolding walk
-        ill-fitted h = rw (eq-eqb (length (s .triangles) % 12) 0 whole, le-ltb most-triangles (triangleCount (s .triangles)) few, ray, h)
-
-        pub entered : misfit (s .boxes) (s .links) ≡ false → run s r (nodeCount (s .links)) (0 ∷ []) start ≡ walk s r
-        unfolding walk
-        entered h = rw (eq-eqb (length (s .triangles) % 12) 0 whole, le-ltb most-triangles (triangleCount (s .triangles)) few, ray, h)
+-- where none of the four checks fails, the walk is its steps
+pub entered : (s : Lent) (r : Ray) → length (s .triangles) % 12 ≡ 0 → triangleCount (s .triangles) ≤ most-triangles → admittedRay r ≡ true → misfit (s .boxes) (s .links) ≡ false
+    → run s r (nodeCount (s .links)) (0 ∷ []) start ≡ walk s r
+unfolding walk
+entered s r whole few ray fits = ends (goes (agree whole) (goes (not-below few) (goes (ap not ray) (goes fits (serves refl)))))

@@ -9,5 +9,3 @@ pub mod NearestHit
 pub mod SameHit
 pub mod Sighting
 pub mod Straight
-pub mod Room
-pub mod Whole

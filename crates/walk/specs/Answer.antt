@@ -1,14 +1,10 @@
 -- The walk's answer: document 01's number and values for every case. Definitions only.
 use Prim.Native.Nat.{ℕ}
+use Rattle.lent.specs.Ladder.{Refusal, none, numbered}
 use Rattle.triangle.specs.declared.Found.{Found}
 use Rattle.triangle.specs.declared.Found.the-variants.{At, Nothing}
 use Rattle.walk.specs.declared.Answer.{Answer}
 use Rattle.walk.specs.declared.Answer.the-variants.{Struck, Missed, Refused}
-
--- a refusal's number and `at`, or none
-pub data Refusal : Type 0 where
-  none : Refusal
-  numbered : ℕ → ℕ → Refusal
 
 -- the refusal if there is one, the hit if there is one, and the two counts
 pub record Told : Type 0 where

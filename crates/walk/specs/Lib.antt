@@ -5,5 +5,4 @@ pub mod State
 pub mod Aim
 pub mod Tree
 pub mod NearestHit
-pub mod Sky
 pub mod Leaves

@@ -5,6 +5,7 @@ use mathlib.Core.List.{List, [], _∷_}
 use lib.Dec.{leb, ltb, eqb}
 use lib.ListN.{length, getD}
 use lib.Ieee.{Float, lt, le}
+use Rattle.lent.specs.Ladder.{none, numbered, check, unless, ragged, crowded}
 use Rattle.float.specs.Number.{infinity}
 use Rattle.aabb.specs.declared.vector.Ray.{Ray}
 use Rattle.aabb.specs.Vector.{admittedRay}
@@ -21,8 +22,8 @@ use Rattle.walk.specs.declared.tally.Tally.{Tally}
 use Rattle.walk.specs.declared.step.Turn.{Turn}
 use Rattle.walk.specs.declared.step.Turn.the-variants.{Refuse, Down, Open}
 use Rattle.walk.specs.declared.node.Node.{Node}
-use Rattle.walk.specs.Lent.{Lent, most-triangles, most-nodes, most-pending, triangleCount, nodeCount, leftOrFirst, nodeAt, sound, leftOf, rightOf}
-use Rattle.walk.specs.Answer.{Told, none, numbered}
+use Rattle.walk.specs.Lent.{Lent, most-nodes, most-pending, triangleCount, nodeCount, leftOrFirst, nodeAt, sound, leftOf, rightOf}
+use Rattle.walk.specs.Answer.{Told}
 
 -- ---- the tally: the two counts, and the hit so far, by its t and its triangle's number
 abbrev pub start : Tally
@@ -117,8 +118,11 @@ misfit boxes links =
 -- Walk order: 1, 2, 7, 8, then in the order of steps.
 unfoldable pub walk : Lent → Ray → Told
 walk s r =
-    cond (not (eqb (length (s .triangles) % 12) 0)) (refused 1 0)
-    (cond (ltb most-triangles (triangleCount (s .triangles))) (refused 2 (triangleCount (s .triangles)))
-    (cond (not (admittedRay r)) (refused 7 0)
-    (cond (misfit (s .boxes) (s .links)) (refused 8 0)
-    (run s r (nodeCount (s .links)) (0 ∷ []) start))))
+    unless
+    (ragged (s .triangles)
+    ∷ crowded (s .triangles)
+    ∷ check (not (admittedRay r)) 7 0
+    ∷ check (misfit (s .boxes) (s .links)) 8 0
+    ∷ [])
+    refused
+    (run s r (nodeCount (s .links)) (0 ∷ []) start)

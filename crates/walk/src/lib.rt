@@ -7,13 +7,10 @@ mod node; // node.rt: a node of the lent lists
 mod aim; // aim.rt: the ray, prepared for the box tests
 mod leaf; // leaf.rt: a leaf's triangles
 mod step; // step.rt: one step
-mod rays; // rays.rt: a sky of rays in one call
 
 use aabb::Ray;
 use aim::Aim;
 use pending::Pending;
-pub use rays::Filled;
-pub use rays::sky;
 use step::Turn;
 use tally::Nearest;
 use tally::Tally;
@@ -21,9 +18,8 @@ use triangle::Hit;
 use triangle::Triangle;
 ghost use mathlib.Core.Path.{_≡_};
 ghost use mathlib.Core.List.{[], _∷_};
-ghost use Prim.Native.Nat.{_<_, _≤_, _%_};
-ghost use lib.ListN.{length};
-ghost use Rattle.walk.specs.Lent.{lent, triangleCount, most-triangles, nodeCount, most-nodes};
+ghost use Prim.Native.Nat.{_<_, _≤_};
+ghost use Rattle.walk.specs.Lent.{lent, nodeCount, most-nodes};
 ghost use Rattle.walk.specs.Answer.{told};
 ghost use Rattle.walk.specs.Walk.{over, start, run, misfit, walk};
 
@@ -124,31 +120,10 @@ fn misfit(boxes: &[f64], links: &[u32]) -> bool
     if n % 3 != 0 {
         return true;
     }
-    if 131071 < n / 3 {
+    if lent::MOST_NODES < n / 3 {
         return true;
     }
     boxes.len() != 2 * n
-}
-
-// The walk of a ray after tests 1 and 2. `unfit` is what test 8 finds: like those two it is the same for every ray.
-fn cast(
-    triangles: &[f64],
-    index: &[u32],
-    boxes: &[f64],
-    links: &[u32],
-    unfit: bool,
-    ray: Ray,
-) -> Answer
-    requires { ⌜ (length (now triangles) % 12 ≡ 0) × (triangleCount (now triangles) ≤ most-triangles) × (unfit ≡ misfit (now boxes) (now links)) ⌝ }
-    ensures { λ r. ⌜ told r ≡ walk (lent (now (triangles .entry)) (now (index .entry)) (now (boxes .entry)) (now (links .entry))) ray ⌝ }
-{
-    if !ray.admitted() {
-        return Answer::Refused { number: 7, at: 0 };
-    }
-    if unfit {
-        return Answer::Refused { number: 8, at: 0 };
-    }
-    run(triangles, index, boxes, links, ray)
 }
 
 // The nearest hit of the ray among the triangles of the leaves that it reaches, from node 0 on through boxes that it passes, at an equal t the
@@ -164,12 +139,17 @@ pub fn walk(triangles: &[f64], index: &[u32], boxes: &[f64], links: &[u32], ray:
         return Answer::Refused { number: 1, at: 0 };
     }
     let n = numbers / 12;
-    if 65536 < n {
+    if lent::MOST_TRIANGLES < n {
         return Answer::Refused {
             number: 2,
             at: n as u64,
         };
     }
-    let unfit = misfit(boxes, links);
-    cast(triangles, index, boxes, links, unfit, ray)
+    if !ray.admitted() {
+        return Answer::Refused { number: 7, at: 0 };
+    }
+    if misfit(boxes, links) {
+        return Answer::Refused { number: 8, at: 0 };
+    }
+    run(triangles, index, boxes, links, ray)
 }

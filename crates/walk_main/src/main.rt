@@ -2,8 +2,8 @@
 // refusal with its number and place; and skies of rays, with every number of the answer room. What it prints is held to the file stdout beside it.
 use aabb::Ray;
 use aabb::Vec3;
+use sky::Filled;
 use walk::Answer;
-use walk::Filled;
 ghost use Prim.Native.Nat.{_≤_};
 
 fn main() {
@@ -466,7 +466,7 @@ fn sky(label: &[u8], numbers: usize, timed: usize, words: usize) {
         if timed <= 4 {
             if words <= 16 {
                 io::write_all(1, label);
-                match walk::sky(
+                match sky::sky(
                     &mesh,
                     &index,
                     &boxes,

@@ -1,41 +1,47 @@
--- Each return is a line of the table of refusals, or what `make` answers. Assumes nothing.
+-- Each return is the check of the ladder that fails, or what `make` answers. Assumes nothing.
 use Prim.Native.Nat.{_/_}
 use native.Mathlib.Omega.{arith}
+use mathlib.Core.Path.{refl, sym, _∙_}
 use lib.ListN.{length}
-use Rattle.builder.specs.Build.{outcome}
+use Rattle.builder.specs.Build.{built}
 use Rattle.builder.proofs.Fills.{room-is}
-use Rattle.builder.proofs.Whole.{built-1, built-2, built-3, built-4, built-4′, built-5, built-6}
+use Rattle.triangle.proofs.Admitting.{bad-at, none-bad}
+use Rattle.builder.proofs.Whole.{past-room}
 use borrow.Author.Needs.{needs}
+use Rattle.lent.proofs.Ladder.{ends, goes, stops, agree, differ, below, not-below}
 use Rattle.builder.proofs.build.Statement.{statement}
 use Rattle.builder.proofs.build.Tie as tie
 
 returns : tie.Need-returns
-returns c =
-    let a = c .before .before .before .before .before .args in
-    built-1 (a .triangles .now) (a .index .now) (a .boxes .now) (a .links .now) (c .if1 .taken)
+unfolding built
+returns c = ends (stops (differ (c .if1 .taken)) refl)
 
 returns-2 : tie.Need-returns-2
-returns-2 c =
-    let a = c .before .before .before .before .before .before .args in
-    built-2 (a .triangles .now) (a .index .now) (a .boxes .now) (a .links .now) (c .before .if1 .left) (c .if2 .taken)
+unfolding built
+returns-2 c = ends (goes (agree (c .before .if1 .left)) (stops (below (c .if2 .taken)) refl))
 
 returns-3 : tie.Need-returns-3
-returns-3 c =
-    let a = c .before .before .before .before .before .before .before .args in
-    built-3 (a .triangles .now) (a .index .now) (a .boxes .now) (a .links .now) (c .before .before .if1 .left) (c .before .if2 .left) (c .if3 .taken)
+unfolding built
+returns-3 c = ends (goes (agree (c .before .before .if1 .left)) (goes (not-below (c .before .if2 .left)) (stops (below (c .if3 .taken)) refl)))
 
 room-requires : tie.Need-room-requires
 room-requires c κs = search needs
 
 returns-4 : tie.Need-returns-4
+unfolding built
 returns-4 c =
-    let a = c .before .before .before .before .before .before .before .before .before .args in
-    built-4 (a .triangles .now) (a .index .now) (a .boxes .now) (a .links .now) (c .before .before .before .before .if1 .left) (c .before .before .before .if2 .left) (c .before .before .if3 .left) (c .before .room .result) (c .before .room .ensures) (c .if4 .taken)
+    let m = c .before .before in
+    rw (← (c .before .room .ensures))
+    (ends (goes (agree (m .before .before .if1 .left)) (goes (not-below (m .before .if2 .left)) (goes (not-below (m .if3 .left)) (stops (below (c .if4 .taken)) refl)))))
 
 returns-5 : tie.Need-returns-5
+unfolding built
 returns-5 c =
-    let a = c .before .before .before .before .before .before .before .before .before .before .args in
-    built-4′ (a .triangles .now) (a .index .now) (a .boxes .now) (a .links .now) (c .before .before .before .before .before .if1 .left) (c .before .before .before .before .if2 .left) (c .before .before .before .if3 .left) (c .before .before .room .result) (c .before .before .room .ensures) (c .before .if4 .left) (c .if5 .taken)
+    let m = c .before .before .before in
+    rw (← (c .before .before .room .ensures))
+    (ends
+    (goes (agree (m .before .before .if1 .left))
+    (goes (not-below (m .before .if2 .left)) (goes (not-below (m .if3 .left)) (goes (not-below (c .before .if4 .left)) (stops (below (c .if5 .taken)) refl))))))
 
 first-refused-requires : tie.Need-first-refused-requires
 first-refused-requires c κs = search needs
@@ -45,8 +51,11 @@ enum-known-bad c = search needs
 
 returns-6 : tie.Need-returns-6
 returns-6 c =
-    let a = c .before .before .before .before .before .before .before .before .before .before .before .before .before .before .args in
-    built-5 (a .triangles .now) (a .index .now) (a .boxes .now) (a .links .now) (c .before .before .before .before .before .before .before .before .before .if1 .left) (c .before .before .before .before .before .before .before .before .if2 .left) (c .before .before .before .before .before .before .before .if3 .left) (c .before .before .before .before .before .before .room .result) (c .before .before .before .before .before .before .room .ensures) (c .before .before .before .first-refused .result) (c .before .bad .given .0 .0) (c .before .before .before .before .before .if4 .left) (c .before .before .before .before .if5 .left) (c .before .before .before .first-refused .ensures) (c .before .bad .given .1)
+    let f = c .before .before .before in
+    let r = f .before .before .before in
+    let m = r .before in
+    past-room _ _ _ _ _ _ (m .before .before .if1 .left) (m .before .if2 .left) (m .if3 .left) (r .room .ensures) (f .before .before .if4 .left) (f .before .if5 .left)
+    (bad-at (sym (f .first-refused .ensures) ∙ c .before .bad .given .1) refl)
 
 enum-told : tie.Need-enum-told
 enum-told c = search needs
@@ -73,9 +82,12 @@ same-length-3 c = c .before .before .before .before .before .before .make .kept 
 
 returns-7 : tie.Need-returns-7
 returns-7 c =
-    let a = c .before .before .before .before .before .before .before .before .before .before .before .before .before .before .before .before .before .before .before .before .before .before .before .args in
-    let m = c .before .before .before .before .before .before .make in
-    built-6 (a .triangles .now) (a .index .now) (a .boxes .now) (a .links .now) (c .before .before .before .before .before .before .before .before .before .before .before .before .before .before .before .before .before .before .if1 .left) (c .before .before .before .before .before .before .before .before .before .before .before .before .before .before .before .before .before .if2 .left) (c .before .before .before .before .before .before .before .before .before .before .before .before .before .before .before .before .if3 .left) (c .before .before .before .before .before .before .before .before .before .before .before .before .before .before .before .room .result) (c .before .before .before .before .before .before .before .before .before .before .before .before .before .before .before .room .ensures) (c .before .before .before .before .before .before .before .before .before .before .before .before .first-refused .result) (outcome (m .result) (m .last .1 .0) (m .last .1 .1 .0) (m .last .1 .1 .1 .0)) (c .before .before .before .before .before .before .before .before .before .before .before .before .before .before .if4 .left) (c .before .before .before .before .before .before .before .before .before .before .before .before .before .if5 .left) (c .before .before .before .before .before .before .before .before .before .before .before .before .first-refused .ensures) (c .before .before .before .before .before .before .before .before .before .before .enum-told .given .1) (m .ensures)
+    let k = c .before .before .before .before .before .before in
+    let f = k .before .before .before .before .before .before in
+    let r = f .before .before .before in
+    let m = r .before in
+    past-room _ _ _ _ _ _ (m .before .before .if1 .left) (m .before .if2 .left) (m .if3 .left) (r .room .ensures) (f .before .before .if4 .left) (f .before .if5 .left)
+    (none-bad (sym (f .first-refused .ensures) ∙ k .before .before .before .before .enum-told .given .1) (k .make .ensures))
 
 pub build-spec : {M : Type 1} → statement M
 build-spec =

@@ -3,16 +3,16 @@ use Prim.Native.Nat.{ℕ}
 use mathlib.Core.Path.{_≡_}
 use mathlib.Core.List.{List}
 use lib.Ieee.{Float}
-use Rattle.walk.specs.declared.rays.Filled.{Filled}
-use Rattle.walk.specs.Sky.{Outcome, outcome}
+use Rattle.sky.specs.declared.Filled.{Filled}
+use Rattle.sky.specs.Sky.{Filling, filling}
 use Rattle.pigeonmast.specs.Report.{sky, skyAnswer, skyAt, skyReport}
 use borrow.Author.Needs.{needs}
 use Rattle.pigeonmast.proofs.pigeonmast_sky.Statement.{statement}
 use Rattle.pigeonmast.proofs.pigeonmast_sky.Tie as tie
 
 -- the report of an outcome, by its parts
-reported : (r : Filled) (times : List Float) (told : List ℕ) (o : Outcome) (n : ℕ) (at : List ℕ)
-    → outcome r times told ≡ o → n ≡ skyAnswer r → at ≡ skyAt r → sky n at times told ≡ skyReport o
+reported : (r : Filled) (times : List Float) (told : List ℕ) (o : Filling) (n : ℕ) (at : List ℕ)
+    → filling r times told ≡ o → n ≡ skyAnswer r → at ≡ skyAt r → sky n at times told ≡ skyReport o
 unfolding skyReport
 reported r times told o n at e p q = rw (← e, p, q)
 

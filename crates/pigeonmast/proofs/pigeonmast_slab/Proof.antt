@@ -6,8 +6,8 @@ use Rattle.pigeonmast.proofs.pigeonmast_slab.Tie as tie
 read-requires : tie.Need-read-requires
 read-requires c κs = search needs
 
-ray-of-requires : tie.Need-ray-of-requires
-ray-of-requires c κs = search needs
+read-requires-2 : tie.Need-read-requires-2
+read-requires-2 c κs = search needs
 
 intersect-ray-requires : tie.Need-intersect-ray-requires
 intersect-ray-requires c κs = search needs
@@ -21,4 +21,4 @@ returns c = cc
 pub pigeonmast-slab-spec : {M : Type 1} → statement M
 pigeonmast-slab-spec =
     tie.close
-    (tie.spec read-requires ray-of-requires intersect-ray-requires tell-slab-requires returns)
+    (tie.spec read-requires read-requires-2 intersect-ray-requires tell-slab-requires returns)

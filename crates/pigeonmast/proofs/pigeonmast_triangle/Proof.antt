@@ -6,8 +6,8 @@ use Rattle.pigeonmast.proofs.pigeonmast_triangle.Tie as tie
 read-requires : tie.Need-read-requires
 read-requires c κs = search needs
 
-ray-of-requires : tie.Need-ray-of-requires
-ray-of-requires c κs = search needs
+read-requires-2 : tie.Need-read-requires-2
+read-requires-2 c κs = search needs
 
 intersect-requires : tie.Need-intersect-requires
 intersect-requires c κs = search needs
@@ -21,4 +21,4 @@ returns c = cc
 pub pigeonmast-triangle-spec : {M : Type 1} → statement M
 pigeonmast-triangle-spec =
     tie.close
-    (tie.spec read-requires ray-of-requires intersect-requires tell-triangle-requires returns)
+    (tie.spec read-requires read-requires-2 intersect-requires tell-triangle-requires returns)

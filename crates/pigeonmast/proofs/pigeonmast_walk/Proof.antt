@@ -3,8 +3,8 @@ use borrow.Author.Needs.{needs}
 use Rattle.pigeonmast.proofs.pigeonmast_walk.Statement.{statement}
 use Rattle.pigeonmast.proofs.pigeonmast_walk.Tie as tie
 
-ray-of-requires : tie.Need-ray-of-requires
-ray-of-requires c κs = search needs
+read-requires : tie.Need-read-requires
+read-requires c κs = search needs
 
 walk-requires : tie.Need-walk-requires
 walk-requires c κs = search needs
@@ -17,4 +17,4 @@ returns c = cc
 
 pub pigeonmast-walk-spec : {M : Type 1} → statement M
 pigeonmast-walk-spec =
-    tie.close (tie.spec ray-of-requires walk-requires tell-walk-requires returns)
+    tie.close (tie.spec read-requires walk-requires tell-walk-requires returns)

@@ -1,26 +1,67 @@
--- Tests 1 and 2, then the walk of the ray. Assumes nothing.
-use Rattle.walk.specs.Answer.{told}
-use Rattle.walk.proofs.Entrance.{ragged, many}
+-- Each return is the check of the ladder that fails, or what the steps answer. Assumes nothing.
+use mathlib.Core.Path.{refl, sym, ap, _∙_}
+use mathlib.Core.Bool.{not}
 use borrow.Author.Needs.{needs}
+use Rattle.lent.proofs.Ladder.{ends, goes, stops, serves, agree, differ, below, not-below}
+use Rattle.walk.specs.Answer.{told}
+use Rattle.walk.specs.Walk.{walk}
+use Rattle.walk.proofs.Entrance.{fitting}
 use Rattle.walk.proofs.walk.Statement.{statement}
 use Rattle.walk.proofs.walk.Tie as tie
 
 returns : tie.Need-returns
-unfolding told
-returns c = ragged _ _ (c .if1 .taken)
+unfolding told walk
+returns c = ends (stops (differ (c .if1 .taken)) refl)
 
 returns-2 : tie.Need-returns-2
-unfolding told
-returns-2 c = many _ _ (c .before .if1 .left) (c .if2 .taken)
+unfolding told walk
+returns-2 c = ends (goes (agree (c .before .if1 .left)) (stops (below (c .if2 .taken)) refl))
+
+admitted-requires : tie.Need-admitted-requires
+admitted-requires c κs = search needs
+
+returns-3 : tie.Need-returns-3
+unfolding told walk
+returns-3 c =
+    let m = c .before .before in
+    ends (goes (agree (m .before .if1 .left)) (goes (not-below (m .if2 .left)) (stops (ap not (sym (c .before .admitted .ensures)) ∙ c .if3 .taken) refl)))
 
 misfit-requires : tie.Need-misfit-requires
 misfit-requires c κs = search needs
 
-cast-requires : tie.Need-cast-requires
-cast-requires c κs = (c .before .before .if1 .left, c .before .if2 .left, c .misfit .ensures)
+returns-4 : tie.Need-returns-4
+unfolding told walk
+returns-4 c =
+    let r = c .before .before in
+    let m = r .before .before in
+    ends
+    (goes (agree (m .before .if1 .left))
+    (goes (not-below (m .if2 .left))
+    (goes (ap not (sym (r .before .admitted .ensures)) ∙ r .if3 .left) (stops (sym (c .before .misfit .ensures) ∙ c .if4 .taken) refl))))
 
-returns-3 : tie.Need-returns-3
-returns-3 c = c .cast .ensures
+run-requires : tie.Need-run-requires
+run-requires c κs = fitting _ _ (sym (c .before .misfit .ensures) ∙ c .if4 .left)
+
+returns-5 : tie.Need-returns-5
+unfolding walk
+returns-5 c =
+    let f = c .before .before in
+    let r = f .before in
+    let m = r .before .before in
+    ends
+    (goes (agree (m .before .if1 .left))
+    (goes (not-below (m .if2 .left))
+    (goes (ap not (sym (r .before .admitted .ensures)) ∙ r .if3 .left) (goes (sym (f .misfit .ensures) ∙ c .before .if4 .left) (serves (c .run .ensures))))))
 
 pub walk-spec : {M : Type 1} → statement M
-walk-spec = tie.close (tie.spec returns returns-2 misfit-requires cast-requires returns-3)
+walk-spec =
+    tie.close
+    (tie.spec
+    returns
+    returns-2
+    admitted-requires
+    returns-3
+    misfit-requires
+    returns-4
+    run-requires
+    returns-5)

@@ -1,7 +1,7 @@
 -- The box starts at its place. Assumes nothing.
 use Prim.Native.Nat.{_*_}
-use Rattle.aabb.specs.Bounds.{boxAt}
-use Rattle.aabb.proofs.Tests.{box-starts}
+use Rattle.aabb.specs.Bounds.{box, boxAt}
+use Rattle.aabb.proofs.Tests.{pair-starts}
 use borrow.Author.Needs.{needs}
 use Rattle.aabb.proofs.bounds.Aabb.read.Statement.{statement}
 use Rattle.aabb.proofs.bounds.Aabb.read.Tie as tie
@@ -23,7 +23,7 @@ unfolding boxAt
 returns c =
     let p = c .before .before in
     let a = p .before .before .args in
-    box-starts (a .numbers .now) (a .i * 6) _ _ _ (p .place .ensures) (c .before .read .ensures) (c .read2 .ensures)
+    pair-starts box (a .numbers .now) (a .i * 6) _ _ _ (p .place .ensures) (c .before .read .ensures) (c .read2 .ensures)
 
 pub read-spec : {M : Type 1} → statement M
 read-spec = tie.close (tie.spec place-requires read-requires add-read read-requires-2 returns)

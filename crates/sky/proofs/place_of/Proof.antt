@@ -1,9 +1,9 @@
 -- By cases of the answer. Assumes nothing.
 use Rattle.walk.specs.Answer.{told}
-use Rattle.walk.specs.Sky.{placeOf, placed}
+use Rattle.sky.specs.Sky.{placeOf, placed}
 use borrow.Author.Needs.{needs}
-use Rattle.walk.proofs.rays.place_of.Statement.{statement}
-use Rattle.walk.proofs.rays.place_of.Tie as tie
+use Rattle.sky.proofs.place_of.Statement.{statement}
+use Rattle.sky.proofs.place_of.Tie as tie
 
 enum-known-answer : tie.Need-enum-known-answer
 enum-known-answer c = search needs

@@ -2,10 +2,10 @@
 use mathlib.Core.Path.{refl}
 use native.Mathlib.Omega.{arith}
 use lib.ListN.{length-set}
-use Rattle.walk.specs.Sky.{timePut, toldPut}
+use Rattle.lent.proofs.Flat.{written}
 use borrow.Author.Needs.{needs}
-use Rattle.walk.proofs.rays.put.Statement.{statement}
-use Rattle.walk.proofs.rays.put.Tie as tie
+use Rattle.sky.proofs.put.Statement.{statement}
+use Rattle.sky.proofs.put.Tie as tie
 
 mul-at : tie.Need-mul-at
 mul-at c = search needs
@@ -56,8 +56,7 @@ same-length-2 : tie.Need-same-length-2
 same-length-2 c = simp length-set
 
 returns : tie.Need-returns
-unfolding timePut toldPut
-returns c = (refl, refl)
+returns c = (refl, written 4 _ _ _ _)
 
 pub put-spec : {M : Type 1} → statement M
 put-spec =

@@ -1,16 +1,15 @@
 // A sky of rays in one call: each ray's walk, told in lent answer room, one place a ray. The Rust casts its rays one by one; this has no
 // counterpart there.
-use crate::Answer;
 use aabb::Ray;
-use aabb::Vec3;
+use walk::Answer;
 ghost use mathlib.Core.Path.{_≡_};
 ghost use mathlib.Core.List.{_++_};
-ghost use Prim.Native.Nat.{_+_, _*_, _≤_, _%_};
-ghost use lib.ListN.{length, drop};
-ghost use Rattle.walk.specs.Lent.{lent, triangleCount, most-triangles};
+ghost use Prim.Native.Nat.{_+_, _*_, _≤_};
+ghost use lib.ListN.{length, set, drop};
+ghost use Rattle.lent.specs.Flat.{put as written, records};
+ghost use Rattle.walk.specs.Lent.{lent};
 ghost use Rattle.walk.specs.Answer.{told as answered};
-ghost use Rattle.walk.specs.Walk.{misfit};
-ghost use Rattle.walk.specs.Sky.{rayAt, placeOf, places, timesOf, toldOf, timePut, toldPut, outcome, sky};
+ghost use Rattle.sky.specs.Sky.{placeOf, toldOf, timesFor, toldFor, filling, sky};
 
 // What the call answers: every ray's place is filled, or the whole call is refused, with document 02's number and `at`.
 pub enum Filled {
@@ -61,21 +60,11 @@ fn place_of(answer: Answer) -> Place
     }
 }
 
-// Ray k of the slice.
-fn ray_at(rays: &[f64], k: usize) -> Ray
-    requires { ⌜ k * 6 ≤ length (now rays) ⌝ }
-    ensures { λ r. ⌜ r ≡ rayAt (now (rays .entry)) k ⌝ }
-{
-    let at = k * 6;
-    let origin = Vec3::read(rays, at);
-    let direction = Vec3::read(rays, at + 3);
-    Ray { origin, direction }
-}
-
+// Place k, written: one number of `times` and four of `told`.
 fn put(times: &mut [f64], told: &mut [u64], k: usize, place: Place)
     requires { ⌜ (k + 1 ≤ length (now times)) × (k * 4 + 4 ≤ length (now told)) ⌝ }
-    ensures { λ _. ⌜ now (times .exit) ≡ timePut (now (times .entry)) k place ⌝ }
-    ensures { λ _. ⌜ now (told .exit) ≡ toldPut (now (told .entry)) k place ⌝ }
+    ensures { λ _. ⌜ now (times .exit) ≡ set (now (times .entry)) k (place .t) ⌝ }
+    ensures { λ _. ⌜ now (told .exit) ≡ written 4 (now (told .entry)) k (toldOf place) ⌝ }
 {
     let at = k * 4;
     times[k] = place.t;
@@ -91,21 +80,19 @@ fn fill(
     index: &[u32],
     boxes: &[f64],
     links: &[u32],
-    unfit: bool,
     rays: &[f64],
     n: usize,
     times: &mut [f64],
     told: &mut [u64],
 )
-    requires { ⌜ (length (now triangles) % 12 ≡ 0) × (triangleCount (now triangles) ≤ most-triangles) × (unfit ≡ misfit (now boxes) (now links)) ⌝ }
-    requires { ⌜ (n * 6 ≤ length (now rays)) × (n ≤ length (now times)) × (n * 4 ≤ length (now told)) ⌝ }
-    ensures { λ _. ⌜ now (times .exit) ≡ timesOf (places (lent (now (triangles .entry)) (now (index .entry)) (now (boxes .entry)) (now (links .entry))) (now (rays .entry)) n) ++ drop n (now (times .entry)) ⌝ }
-    ensures { λ _. ⌜ now (told .exit) ≡ toldOf (places (lent (now (triangles .entry)) (now (index .entry)) (now (boxes .entry)) (now (links .entry))) (now (rays .entry)) n) ++ drop (n * 4) (now (told .entry)) ⌝ }
+    requires { ⌜ (n ≤ length (now times)) × (n * 4 ≤ length (now told)) ⌝ }
+    ensures { λ _. ⌜ now (times .exit) ≡ records (timesFor (lent (now (triangles .entry)) (now (index .entry)) (now (boxes .entry)) (now (links .entry))) (now (rays .entry))) n ++ drop n (now (times .entry)) ⌝ }
+    ensures { λ _. ⌜ now (told .exit) ≡ records (toldFor (lent (now (triangles .entry)) (now (index .entry)) (now (boxes .entry)) (now (links .entry))) (now (rays .entry))) n ++ drop (n * 4) (now (told .entry)) ⌝ }
 {
     let mut k: usize = 0;
     while k < n {
-        let ray = ray_at(rays, k);
-        let answer = crate::cast(triangles, index, boxes, links, unfit, ray);
+        let ray = Ray::read(rays, k);
+        let answer = walk::walk(triangles, index, boxes, links, ray);
         put(times, told, k, place_of(answer));
         k += 1;
     }
@@ -125,40 +112,29 @@ pub fn sky(
     times: &mut [f64],
     told: &mut [u64],
 ) -> Filled
-    ensures { λ r. ⌜ outcome r (now (times .exit)) (now (told .exit)) ≡ sky (lent (now (triangles .entry)) (now (index .entry)) (now (boxes .entry)) (now (links .entry))) (now (rays .entry)) (now (times .entry)) (now (told .entry)) ⌝ }
+    ensures { λ r. ⌜ filling r (now (times .exit)) (now (told .exit)) ≡ sky (lent (now (triangles .entry)) (now (index .entry)) (now (boxes .entry)) (now (links .entry))) (now (rays .entry)) (now (times .entry)) (now (told .entry)) ⌝ }
 {
     let numbers = triangles.len();
     if numbers % 12 != 0 {
         return Filled::Refused { number: 1, at: 0 };
     }
     let n = numbers / 12;
-    if 65536 < n {
+    if lent::MOST_TRIANGLES < n {
         return Filled::Refused {
             number: 2,
             at: n as u64,
         };
     }
+    let count = rays.len() / 6;
     if rays.len() % 6 != 0 {
         return Filled::Refused { number: 14, at: 0 };
     }
-    let count = rays.len() / 6;
     if times.len() < count {
         return Filled::Refused { number: 13, at: 0 };
     }
     if told.len() < count * 4 {
         return Filled::Refused { number: 13, at: 0 };
     }
-    let unfit = crate::misfit(boxes, links);
-    fill(
-        triangles,
-        index,
-        boxes,
-        links,
-        unfit,
-        rays,
-        count,
-        times,
-        told,
-    );
+    fill(triangles, index, boxes, links, rays, count, times, told);
     Filled::Places
 }

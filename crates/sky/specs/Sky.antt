@@ -1,0 +1,86 @@
+-- A sky of rays in one call: what it answers and leaves in the lent answer room, through the single walk's definition. Definitions only.
+use Prim.Native.Nat.{ℕ, _+_, _*_, _/_, _%_}
+use mathlib.Core.Bool.{not}
+use mathlib.Core.List.{List, [], _∷_, _++_}
+use lib.Dec.{ltb, eqb}
+use lib.ListN.{length, getD, drop}
+use lib.Ieee.{Float, nan}
+use Rattle.lent.specs.Ladder.{Refusal, none, numbered, check, unless, ragged, crowded}
+use Rattle.lent.specs.Flat.{records}
+use Rattle.float.specs.Number.{nought}
+use Rattle.aabb.specs.Vector.{rayAt}
+use Rattle.triangle.specs.declared.Found.{Found}
+use Rattle.triangle.specs.declared.Found.the-variants.{At, Nothing}
+use Rattle.walk.specs.Lent.{Lent}
+use Rattle.walk.specs.Answer.{Told}
+use Rattle.walk.specs.Walk.{walk}
+use Rattle.sky.specs.declared.Filled.{Filled}
+use Rattle.sky.specs.declared.Filled.the-variants.{Places, Refused}
+use Rattle.sky.specs.declared.Place.{Place}
+
+-- six numbers a ray: origin, direction
+abbrev pub rayCount : List Float → ℕ
+rayCount rays = length rays / 6
+
+-- ---- one place
+-- outcome (0 miss, 100 hit, else the refusal number), triangle (or a refusal's `at`), t and the two counts, 0 where none applies
+unfoldable pub placed : Refusal → Found → ℕ → ℕ → Place
+placed none (At h) boxes triangles = record { outcome = 100; which = h .triangle; t = h .t; boxes = boxes; triangles = triangles }
+placed none Nothing boxes triangles = record { outcome = 0; which = 0; t = nought; boxes = boxes; triangles = triangles }
+placed (numbered number at) hit boxes triangles = record { outcome = number; which = at; t = nought; boxes = 0; triangles = 0 }
+
+unfoldable pub placeOf : Told → Place
+placeOf a = placed (a .refusal) (a .hit) (a .boxes) (a .triangles)
+
+-- Place k must be what the single walk gives for ray k, refusals included
+unfoldable pub placeFor : Lent → List Float → ℕ → Place
+placeFor s rays k = placeOf (walk s (rayAt rays k))
+
+-- told four a ray: outcome, triangle or at, box tests, triangle tests
+abbrev pub toldOf : Place → List ℕ
+toldOf p = p .outcome ∷ p .which ∷ p .boxes ∷ p .triangles ∷ []
+
+abbrev pub toldFor : Lent → List Float → ℕ → List ℕ
+toldFor s rays k = toldOf (placeFor s rays k)
+
+-- times one a ray
+abbrev pub timesFor : Lent → List Float → ℕ → List Float
+timesFor s rays k = placeFor s rays k .t ∷ []
+
+-- place k of the answer room, as a caller reads it
+abbrev pub placeAt : List Float → List ℕ → ℕ → Place
+placeAt times told k = record {
+  outcome = getD told (k * 4) 0;
+  which = getD told (k * 4 + 1) 0;
+  t = getD times k nan;
+  boxes = getD told (k * 4 + 2) 0;
+  triangles = getD told (k * 4 + 3) 0;
+}
+
+-- ---- the call
+-- the answer, and what the lent answer room holds at the end
+pub record Filling : Type 0 where
+  pub answer : Filled
+  pub times : List Float
+  pub told : List ℕ
+
+abbrev pub filling : Filled → List Float → List ℕ → Filling
+filling answer times told = record { answer = answer; times = times; told = told }
+
+-- one place for each of n rays; room beyond them stays
+unfoldable pub filled : Lent → List Float → ℕ → List Float → List ℕ → Filling
+filled s rays n times told = filling Places (records (timesFor s rays) n ++ drop n times) (records (toldFor s rays) n ++ drop (n * 4) told)
+
+-- 1 and 2 refuse the whole call; 14, ray slice not a multiple of six, before 13; 13, answer room too short, in times or in told, after 2 and
+-- before any ray. A refused call writes nothing
+unfoldable pub sky : Lent → List Float → List Float → List ℕ → Filling
+sky s rays times told =
+    unless
+    (ragged (s .triangles)
+    ∷ crowded (s .triangles)
+    ∷ check (not (eqb (length rays % 6) 0)) 14 0
+    ∷ check (ltb (length times) (rayCount rays)) 13 0
+    ∷ check (ltb (length told) (rayCount rays * 4)) 13 0
+    ∷ [])
+    (λ number at. filling (Refused number at) times told)
+    (filled s rays (rayCount rays) times told)
