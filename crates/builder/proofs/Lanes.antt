@@ -20,6 +20,7 @@ use Rattle.aabb.specs.Bounds.{boxAt, emptyBox, union}
 use Rattle.aabb.specs.declared.bounds.Aabb.{Aabb}
 use Rattle.builder.specs.declared.bins.Bin.{Bin}
 use Rattle.builder.specs.Bins.{blank, noBin, withBox}
+use Rattle.lent.proofs.Flat.{written}
 use Rattle.builder.specs.Layout.{boxPut}
 use Rattle.builder.specs.Lanes.{AllClear, binAt, lane, Lanes, Vacant}
 use Rattle.builder.proofs.Placing.{box-here, box-numbers, box-other, box-length, second, third}
@@ -226,6 +227,7 @@ module _ (bs : List Float) (k : ℕ) (r₁ r₂ r₃ r₄ r₅ r₆ : Float) whe
           n₅ .0 ∙ ap (λ (p : ℕ). greater (getD bs p nan) (b .max .y)) (sym (second k)),
           n₆ .0 ∙ ap (λ (p : ℕ). greater (getD bs p nan) (b .max .z)) (sym (third k)),
         )
+        (written 6 _ _ _ _)
 
     pub grown-clear : AllClear s₆
     grown-clear =

@@ -39,7 +39,7 @@ pub fn build(triangles: &[f64], index: &mut [u32], boxes: &mut [f64], links: &mu
         return Built::Refused { number: 1, at: 0 };
     }
     let n = triangles.len() / 12;
-    if start::MOST_TRIANGLES < n {
+    if lent::MOST_TRIANGLES < n {
         return Built::Refused { number: 2, at: n };
     }
     if index.len() < n {
@@ -86,7 +86,7 @@ fn make(
         0,
         0,
         1,
-        division::DEEPEST,
+        lent::DEEPEST,
     );
     let Made::Next(nodes) = made else {
         start::clear(index);

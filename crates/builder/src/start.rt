@@ -7,8 +7,6 @@ ghost use Rattle.lent.specs.Limits.{most-triangles};
 ghost use Rattle.lent.specs.Permutation.{upTo};
 ghost use Rattle.builder.specs.Build.{room, firstRefused};
 
-pub const MOST_TRIANGLES: usize = 65536;
-
 pub enum Found {
     At(usize),
     Nothing,

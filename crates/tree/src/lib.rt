@@ -106,7 +106,7 @@ pub fn misfit(boxes: &[f64], links: &[u32]) -> bool
     if n % 3 != 0 {
         return true;
     }
-    if 131071 < n / 3 {
+    if lent::MOST_NODES < n / 3 {
         return true;
     }
     boxes.len() != 2 * n
