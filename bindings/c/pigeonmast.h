@@ -9,11 +9,16 @@
  * - what a call may write overlaps nothing else that it is given, and nobody
  *   else reads or writes it until the call returns; what it only reads stays as
  *   it is until then;
- * - rounding is to nearest even, and neither flush-to-zero nor
- *   denormals-are-zero is set (the state in which a C program starts).
+ * - the floating-point state is the one in which a C program starts: rounding to
+ *   nearest even, neither flush-to-zero nor denormals-are-zero, and every
+ *   exception masked. A build and a walk divide by zero and make NaNs on
+ *   purpose: with a trap switched on (feenableexcept) they end in SIGFPE. They
+ *   set the sticky flags and clear none; flags that are set already change no
+ *   answer (flags.c shows it).
  *
  * Nothing else is asked: every other input gets an answer or a refusal. No call
- * keeps a pointer, allocates memory or has state of its own.
+ * keeps a pointer, allocates memory or has state of its own; so calls may run
+ * side by side on many threads.
  *
  * Triangles are twelve numbers each: v0, v1, v2, normal. A node is six numbers
  * in `boxes` (min x, y, z, max x, y, z) and three in `links` (left child or
@@ -32,26 +37,6 @@
  * internal with a count other than 0. Where the ray passes its box, a leaf whose
  * range ends beyond the index list is bad too, and so is an internal node with a
  * child beyond the nodes (the right child is the one after the left).
- *
- * The refusal numbers are those of documents 01 and 02; at is 0 where none is
- * named:
- *
- *    1  triangle slice not a multiple of 12 long
- *    2  more than 65,536 triangles                          at: how many
- *    3  index room shorter than the number of triangles
- *    4  node room too small in boxes or links               at: nodes needed
- *    5  a triangle is not admitted                          at: its number
- *    6  the tree has a node deeper than 63 (the root is at 0)
- *    7  ray not admitted
- *    8  links empty, not a multiple of 3, over 131,071 nodes, or boxes not
- *       twice as long as links
- *    9  bad node met                                        at: node
- *   10  an index entry met is not below the number of triangles
- *                                                           at: its place
- *   11  more than 64 pending                                at: node
- *   12  a box test beyond the number of nodes               at: node
- *   13  answer room too short
- *   14  ray slice not a multiple of six long
  */
 #ifndef PIGEONMAST_H
 #define PIGEONMAST_H
@@ -63,7 +48,36 @@
 extern "C" {
 #endif
 
+/* The form of these calls: what pigeonmast_abi() answers, where the library is
+ * the one that this header was written for. It rises when a call's parameters,
+ * or what it writes, change. */
+#define PIGEONMAST_ABI 1
+
+/* The answer of pigeonmast_walk for a hit, and the outcome that pigeonmast_sky
+ * tells of one. No refusal has this number. */
 #define PIGEONMAST_HIT 100
+
+/* The refusals, numbered as in docs/RULES.md; at is 0 where none is named. */
+enum pigeonmast_refusal {
+    PIGEONMAST_TRIANGLE_NUMBERS = 1,       /* triangles not in twelves */
+    PIGEONMAST_TOO_MANY_TRIANGLES = 2,     /* more than 65,536; at: how many */
+    PIGEONMAST_INDEX_ROOM = 3,             /* index shorter than one a triangle */
+    PIGEONMAST_NODE_ROOM = 4,              /* boxes or links too short; at: nodes needed */
+    PIGEONMAST_TRIANGLE_NOT_ADMITTED = 5,  /* at: the triangle */
+    PIGEONMAST_TOO_DEEP = 6,               /* a node deeper than 63, the root at 0 */
+    PIGEONMAST_RAY_NOT_ADMITTED = 7,
+    PIGEONMAST_NODE_LISTS = 8,             /* links empty, not in threes, over 131,071
+                                              nodes, or boxes not twice as long */
+    PIGEONMAST_BAD_NODE = 9,               /* at: the node */
+    PIGEONMAST_BAD_ENTRY = 10,             /* an index entry names no triangle; at: its place */
+    PIGEONMAST_TOO_MANY_PENDING = 11,      /* more than 64; at: the node opened */
+    PIGEONMAST_TOO_MANY_BOX_TESTS = 12,    /* more than there are nodes; at: the next node */
+    PIGEONMAST_ANSWER_ROOM = 13,           /* times or told too short */
+    PIGEONMAST_RAY_NUMBERS = 14            /* rays not in sixes */
+};
+
+/* The form of the calls that the library has: PIGEONMAST_ABI. */
+uint32_t pigeonmast_abi(void);
 
 /* Builds the tree of n triangles: the first n numbers of index and the first
  * 2L-1 nodes of boxes and links. Room for n index entries and 2n-1 nodes (1 for

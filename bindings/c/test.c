@@ -1,4 +1,4 @@
-/* The five calls from C: rows of document 01's probe table, a refusal of each
+/* The calls from C: rows of the probe table (docs/RULES.md), a refusal of each
  * call that has any, and what stays as it was (9). Prints what differs; exits 1. */
 #include "pigeonmast.h"
 #include <stdio.h>
@@ -32,8 +32,9 @@ int main(void)
         double *v = mesh + 12 * k, s = 16.0 * (double)k;
         v[0] = v[6] = s, v[3] = s + 3, v[7] = 3, v[11] = 1;
     }
-    ANSWERS(pigeonmast_build(mesh, 60, index, 4, boxes, 0, links, 0, told), 3);
-    ANSWERS(pigeonmast_build(mesh, 60, index, 5, boxes, 54, links, 26, told), 4);
+    ANSWERS(pigeonmast_abi(), PIGEONMAST_ABI);
+    ANSWERS(pigeonmast_build(mesh, 60, index, 4, boxes, 0, links, 0, told), PIGEONMAST_INDEX_ROOM);
+    ANSWERS(pigeonmast_build(mesh, 60, index, 5, boxes, 54, links, 26, told), PIGEONMAST_NODE_ROOM);
     HOLDS(told, 9, 0);
     HOLDS(index, 9);
     ANSWERS(pigeonmast_build(mesh, 60, index, 6, boxes, 54, links, 27, told), 0);
@@ -43,21 +44,21 @@ int main(void)
     HOLDS(links, 1, 0, 0, 0, 2, 1, 2, 3, 1);
 
 #define TREE mesh, 60, index, 5, boxes, 18, links, 9
-    ANSWERS(pigeonmast_walk(TREE, mesh + 12, numbers, told), 7); /* a direction of 19 */
+    ANSWERS(pigeonmast_walk(TREE, mesh + 12, numbers, told), PIGEONMAST_RAY_NOT_ADMITTED); /* a direction of 19 */
     HOLDS(told, 0, 0, 0, 0);
     HOLDS(numbers, 9);
     ANSWERS(pigeonmast_walk(TREE, rays, numbers, told), PIGEONMAST_HIT);
     HOLDS(told, 1, 1, 3, 2);
     HOLDS(numbers, 1, 17, 1, 0, 0, 0, 1);
-    ANSWERS(pigeonmast_sky(TREE, rays, 11, times, 0, places, 0, at), 14);
-    ANSWERS(pigeonmast_sky(TREE, rays, 12, times, 2, places, 7, at), 13);
+    ANSWERS(pigeonmast_sky(TREE, rays, 11, times, 0, places, 0, at), PIGEONMAST_RAY_NUMBERS);
+    ANSWERS(pigeonmast_sky(TREE, rays, 12, times, 2, places, 7, at), PIGEONMAST_ANSWER_ROOM);
     HOLDS(times, 9, 9, 9);
     ANSWERS(pigeonmast_sky(TREE, rays, 12, times, 3, places, 9, at), 0);
     HOLDS(at, 0);
     HOLDS(times, 1, 0, 9);
     HOLDS(places, PIGEONMAST_HIT, 1, 3, 2, 0, 0, 3, 0, 9);
 
-    ANSWERS(pigeonmast_walk(t, 12, index, 1, unit, 6, links + 6, 3, p2, numbers, told), 9);
+    ANSWERS(pigeonmast_walk(t, 12, index, 1, unit, 6, links + 6, 3, p2, numbers, told), PIGEONMAST_BAD_NODE);
     links[6] = 0, links[7] = 1;
     ANSWERS(pigeonmast_walk(t, 12, index, 1, unit, 6, links + 6, 3, p2, numbers, told), PIGEONMAST_HIT);
     HOLDS(told, 0, 1, 1, 1);

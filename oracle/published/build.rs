@@ -68,7 +68,7 @@ fn run() -> Result<(), String> {
     write("cost_loop.rs", &cost_loop(&cost)?)
 }
 
-/// builder.rs with document 01's order where the Rust leaves it open: the whole
+/// builder.rs with rule C5's order where the Rust leaves it open: the whole
 /// range ascending by centroid, equal ones by lower triangle number. It also
 /// tells that it came there.
 fn ordered(builder: &str) -> Result<String, String> {
@@ -92,7 +92,7 @@ fn visible(scene: &str) -> Result<String, String> {
     Ok(format!("pub {}", cut(scene, BLAS, "}", "scene.rs")?))
 }
 
-/// `intersect_blas` with the two counts of document 01 and the triangle's
+/// `intersect_blas` with the two counts of rules W3 and W4 and the triangle's
 /// number for `surface_index`. cost.rs counts at the same two places.
 fn counted(scene: &str) -> Result<String, String> {
     let mut text = cut(scene, BLAS, "}", "scene.rs")?.to_string();
@@ -112,7 +112,7 @@ fn counted(scene: &str) -> Result<String, String> {
     Ok(text)
 }
 
-/// The counting text with document 02's rule at numerically equal t, the lowest
+/// The counting text with rule E1 at numerically equal t, the lowest
 /// triangle number wins; it also tells how many more are met at the hit's t.
 fn ruled(counted: &str) -> Result<String, String> {
     let mut text = counted.to_string();

@@ -1,6 +1,10 @@
+use std::num::NonZeroUsize;
+use std::thread;
+
 use crate::{raw, Aabb, HitRecord, Ray, Refusal, Triangle};
 
-/// A tree with the triangles it was built of.
+/// A tree with the triangles it was built of. It is plain data: clone it, send it
+/// to another thread, walk it from many.
 #[derive(Clone, Debug, PartialEq)]
 pub struct Bvh {
     triangles: Vec<f64>,
@@ -9,8 +13,14 @@ pub struct Bvh {
     links: Vec<u32>,
 }
 
+const _: () = {
+    const fn shared<T: Send + Sync>() {}
+    shared::<Bvh>();
+};
+
 /// A node of a tree.
 #[derive(Clone, Copy, Debug, PartialEq)]
+#[non_exhaustive]
 pub struct BvhNode {
     /// Its box.
     pub aabb: Aabb,
@@ -25,6 +35,7 @@ pub struct BvhNode {
 
 /// What a walk found, and how many tests it took.
 #[derive(Clone, Copy, Debug, PartialEq)]
+#[non_exhaustive]
 pub struct Walk {
     /// The hit, or none for a miss.
     pub hit: Option<HitRecord>,
@@ -36,20 +47,35 @@ pub struct Walk {
 
 /// What a sky of rays tells of one of them.
 #[derive(Clone, Copy, Debug, PartialEq)]
+#[non_exhaustive]
 pub struct Place {
-    /// The triangle that is struck and t there, or none for a miss.
-    pub hit: Option<(usize, f64)>,
+    /// What was struck, or none for a miss.
+    pub hit: Option<PlaceHit>,
     /// Boxes tested.
     pub box_tests: u64,
     /// Triangles tested.
     pub triangle_tests: u64,
 }
 
+/// What a sky of rays tells of a hit: of [`HitRecord`] the two numbers that a
+/// survey asks for.
+#[derive(Clone, Copy, Debug, PartialEq)]
+#[non_exhaustive]
+pub struct PlaceHit {
+    /// The triangle's number.
+    pub triangle: usize,
+    /// The ray's parameter there.
+    pub t: f64,
+}
+
 impl Place {
     fn new(t: f64, told: &[u64]) -> Result<Self, Refusal> {
         let hit = match told[0] as u32 {
             0 => None,
-            raw::HIT => Some((told[1] as usize, t)),
+            raw::HIT => Some(PlaceHit {
+                triangle: told[1] as usize,
+                t,
+            }),
             number => return Err(Refusal::new(number, told[1])),
         };
         Ok(Self {
@@ -60,23 +86,42 @@ impl Place {
     }
 }
 
-/// Builds the tree of these triangles. Refused with 2, 5 or 6.
+/// Builds the tree of these triangles, which are copied into it once.
+///
+/// # Errors
+///
+/// [`Refusal::TooManyTriangles`], [`Refusal::TriangleNotAdmitted`] (the lowest
+/// number) or [`Refusal::TooDeep`], the first of these that applies.
 pub fn build_bvh(triangles: &[Triangle]) -> Result<Bvh, Refusal> {
-    Bvh::from_numbers(triangles.iter().flat_map(Triangle::numbers).collect())
+    Bvh::from_triangles(triangles.to_vec())
 }
 
 /// The most triangles that a build takes.
 const MOST_TRIANGLES: usize = 65_536;
 
 impl Bvh {
-    /// As [`build_bvh`], of twelve numbers a triangle. Refused with 1, 2, 5 or 6.
+    /// As [`build_bvh`], of triangles that are taken over without a copy.
+    ///
+    /// # Errors
+    ///
+    /// Those of [`build_bvh`].
+    pub fn from_triangles(triangles: Vec<Triangle>) -> Result<Self, Refusal> {
+        Self::from_numbers(Triangle::into_numbers(triangles))
+    }
+
+    /// As [`Bvh::from_triangles`], of twelve numbers a triangle.
+    ///
+    /// # Errors
+    ///
+    /// [`Refusal::TriangleNumbers`] where they do not come in twelves; else those
+    /// of [`build_bvh`].
     ///
     /// ```
-    /// use pigeonmast::Bvh;
+    /// use pigeonmast::{Bvh, Refusal};
     /// assert_eq!(Bvh::from_numbers(vec![]).map(|bvh| bvh.node_count()), Ok(1));
     /// let refusal = Bvh::from_numbers(vec![0.0; 13]).unwrap_err();
-    /// assert_eq!(refusal.number(), 1);
-    /// assert_eq!(refusal.to_string(), "refused 1 at 0: triangle slice not a multiple of 12 long");
+    /// assert_eq!(refusal, Refusal::TriangleNumbers);
+    /// assert_eq!((refusal.number(), refusal.at()), (1, 0));
     /// ```
     pub fn from_numbers(triangles: Vec<f64>) -> Result<Self, Refusal> {
         let n = triangles.len() / 12;
@@ -127,9 +172,13 @@ impl Bvh {
         }
     }
 
-    /// Walks the tree with a ray. A tree of [`build_bvh`] refuses only a ray
-    /// that isn't admitted (7); one of [`Bvh::from_lists`] with any of 1, 2, 5
-    /// and 7 to 12.
+    /// Walks the tree with a ray.
+    ///
+    /// # Errors
+    ///
+    /// [`Refusal::RayNotAdmitted`]. A tree of [`Bvh::from_lists`] has besides, in
+    /// the order of docs/RULES.md, whatever its lists are refused for: 1, 2, 8
+    /// and, where the walk comes to it, 12, 9, 10, 5 and 11.
     pub fn intersect(&self, ray: &Ray) -> Result<Walk, Refusal> {
         let (mut numbers, mut told) = ([0.0; 7], [0; 4]);
         let number = raw::walk(
@@ -154,17 +203,23 @@ impl Bvh {
     }
 
     /// Walks the tree with many rays in one call: place k is what
-    /// [`Bvh::intersect`] tells of ray k, its refusal included. The whole call is
-    /// refused (1 or 2) only for triangles of [`Bvh::from_lists`].
+    /// [`Bvh::intersect`] tells of ray k, its refusal included. One refused ray
+    /// does not stop the others.
+    ///
+    /// # Errors
+    ///
+    /// Of the whole call only for triangles of [`Bvh::from_lists`]:
+    /// [`Refusal::TriangleNumbers`] or [`Refusal::TooManyTriangles`].
     ///
     /// ```
-    /// use pigeonmast::{Bvh, Ray, Vec3};
+    /// use pigeonmast::{Bvh, Ray, Refusal};
     /// let t = vec![0.0, 0.0, 0.0, 1.0, 0.0, 0.0, 0.0, 1.0, 0.0, 0.0, 0.0, 1.0];
     /// let bvh = Bvh::from_numbers(t)?;
-    /// let down = |x| Ray::new(Vec3::new(x, 0.25, 1.0), Vec3::new(0.0, 0.0, -1.0));
+    /// let down = |x| Ray::from([x, 0.25, 1.0, 0.0, 0.0, -1.0]);
     /// let places = bvh.sky(&[down(0.25), down(f64::NAN), down(2.0)])?;
-    /// assert_eq!(places[0]?.hit, Some((0, 1.0)));
-    /// assert_eq!(places[1].unwrap_err().number(), 7);
+    /// let hit = places[0]?.hit.expect("it lies below");
+    /// assert_eq!((hit.triangle, hit.t), (0, 1.0));
+    /// assert_eq!(places[1], Err(Refusal::RayNotAdmitted));
     /// assert_eq!(places[2]?.hit, None);
     /// # Ok::<(), pigeonmast::Refusal>(())
     /// ```
@@ -186,6 +241,43 @@ impl Bvh {
         }
         let places = times.iter().zip(told.chunks_exact(4));
         Ok(places.map(|(t, told)| Place::new(*t, told)).collect())
+    }
+
+    /// As [`Bvh::sky`], with the rays dealt out to so many threads in parts that
+    /// follow one another. The answers are the same, since a place depends on its
+    /// own ray alone.
+    ///
+    /// # Errors
+    ///
+    /// Those of [`Bvh::sky`].
+    ///
+    /// # Panics
+    ///
+    /// If the system cannot start a thread.
+    pub fn sky_parallel(
+        &self,
+        rays: &[Ray],
+        threads: NonZeroUsize,
+    ) -> Result<Vec<Result<Place, Refusal>>, Refusal> {
+        let part = rays.len().div_ceil(threads.get()).max(1);
+        if rays.len() <= part {
+            return self.sky(rays);
+        }
+        let parts: Vec<_> = thread::scope(|scope| {
+            let started: Vec<_> = rays
+                .chunks(part)
+                .map(|rays| scope.spawn(|| self.sky(rays)))
+                .collect();
+            let joined = started.into_iter().map(thread::ScopedJoinHandle::join);
+            joined
+                .map(|part| part.expect("a sky does not panic"))
+                .collect()
+        });
+        let mut places = Vec::with_capacity(rays.len());
+        for part in parts {
+            places.extend(part?);
+        }
+        Ok(places)
     }
 
     /// How many nodes it has: 2L-1 of L leaves.
@@ -217,9 +309,28 @@ impl Bvh {
             })
     }
 
+    /// Its triangles, as they were given.
+    #[must_use]
+    pub fn triangles(&self) -> &[Triangle] {
+        Triangle::of_numbers(&self.triangles)
+    }
+
     /// The index list: leaves hold ranges of it, its entries are triangles.
     #[must_use]
     pub fn indices(&self) -> &[u32] {
         &self.index
+    }
+
+    /// The boxes as they are lent, six numbers a node: min x, y, z, max x, y, z.
+    #[must_use]
+    pub fn boxes(&self) -> &[f64] {
+        &self.boxes
+    }
+
+    /// The links as they are lent, three numbers a node: left child or first
+    /// place, count, kind (1 leaf, 0 internal).
+    #[must_use]
+    pub fn links(&self) -> &[u32] {
+        &self.links
     }
 }

@@ -1,7 +1,9 @@
-//! The exported functions, declared by hand: nothing checks these lines against
-//! the Rattle source, so the tests call each of them.
+//! The exported functions, declared by hand. `.ci/signatures` compares these lines
+//! with the Rattle source and the C header; the tests call each of them.
 
 extern "C" {
+    pub fn pigeonmast_abi() -> u32;
+
     pub fn pigeonmast_build(
         triangles: *const f64,
         triangles_len: usize,
@@ -11,7 +13,7 @@ extern "C" {
         boxes_len: usize,
         links: *mut u32,
         links_len: usize,
-        told: *mut u64,
+        told: *mut [u64; 2],
     ) -> u32;
 
     pub fn pigeonmast_walk(
@@ -23,9 +25,9 @@ extern "C" {
         boxes_len: usize,
         links: *const u32,
         links_len: usize,
-        ray: *const f64,
-        numbers: *mut f64,
-        told: *mut u64,
+        ray: *const [f64; 6],
+        numbers: *mut [f64; 7],
+        told: *mut [u64; 4],
     ) -> u32;
 
     pub fn pigeonmast_sky(
@@ -43,10 +45,18 @@ extern "C" {
         times_len: usize,
         told: *mut u64,
         told_len: usize,
-        at: *mut u64,
+        at: *mut [u64; 1],
     ) -> u32;
 
-    pub fn pigeonmast_slab(bounds: *const f64, ray: *const f64, times: *mut f64) -> u32;
+    pub fn pigeonmast_slab(
+        bounds: *const [f64; 6],
+        ray: *const [f64; 6],
+        times: *mut [f64; 2],
+    ) -> u32;
 
-    pub fn pigeonmast_triangle(triangle: *const f64, ray: *const f64, numbers: *mut f64) -> u32;
+    pub fn pigeonmast_triangle(
+        triangle: *const [f64; 12],
+        ray: *const [f64; 6],
+        numbers: *mut [f64; 7],
+    ) -> u32;
 }

@@ -8,35 +8,32 @@
 //! triangles it tested.
 //!
 //! ```
-//! use pigeonmast::{build_bvh, Ray, Triangle, Vec3};
+//! use pigeonmast::{build_bvh, Ray, Refusal, Triangle};
 //!
 //! // Five triangles in a row along x.
-//! let triangles: Vec<Triangle> = [0.0, 16.0, 32.0, 48.0, 64.0]
-//!     .iter()
-//!     .map(|&s| Triangle {
-//!         v0: Vec3::new(s, 0.0, 0.0),
-//!         v1: Vec3::new(s + 3.0, 0.0, 0.0),
-//!         v2: Vec3::new(s, 3.0, 0.0),
-//!         normal: Vec3::new(0.0, 0.0, 1.0),
-//!     })
-//!     .collect();
+//! let triangles = [0.0, 16.0, 32.0, 48.0, 64.0]
+//!     .map(|s| [s, 0.0, 0.0, s + 3.0, 0.0, 0.0, s, 3.0, 0.0, 0.0, 0.0, 1.0])
+//!     .map(Triangle::from);
 //! let bvh = build_bvh(&triangles)?;
 //! assert_eq!((bvh.node_count(), bvh.leaf_count()), (3, 2));
 //!
-//! let down = Vec3::new(0.0, 0.0, -1.0);
-//! let walk = bvh.intersect(&Ray::new(Vec3::new(17.0, 1.0, 1.0), down))?;
+//! let walk = bvh.intersect(&Ray::from([17.0, 1.0, 1.0, 0.0, 0.0, -1.0]))?;
 //! let hit = walk.hit.expect("the second triangle lies below");
 //! assert_eq!((hit.triangle, hit.t, hit.is_front_face), (1, 1.0, true));
 //! assert_eq!((walk.box_tests, walk.triangle_tests), (3, 2));
 //!
-//! let lost = bvh.intersect(&Ray::new(Vec3::new(f64::NAN, 1.0, 1.0), down));
-//! assert_eq!(lost.unwrap_err().number(), 7);
+//! let lost = bvh.intersect(&Ray::from([f64::NAN, 1.0, 1.0, 0.0, 0.0, -1.0]));
+//! assert_eq!(lost, Err(Refusal::RayNotAdmitted));
 //! # Ok::<(), pigeonmast::Refusal>(())
 //! ```
 //!
-//! [`Bvh::sky`] walks many rays in one call.
+//! [`Bvh::sky`] walks many rays in one call, [`Bvh::sky_parallel`] on many threads.
 //!
-//! [`raw`] has the five calls of the library as they stand, over lent slices.
+//! [`raw`] has the calls of the library as they stand, over lent slices, and says
+//! what is asked of the floating-point state. A Rust program starts in it.
+//!
+//! A mesh is handed over without a copy by [`Bvh::from_triangles`], or lent by
+//! [`Triangle::all_numbers`] to [`raw::build`].
 
 #![deny(missing_docs)]
 
@@ -49,7 +46,7 @@ mod triangle;
 mod vector;
 
 pub use aabb::{ray_aabb_slab_test, Aabb};
-pub use bvh::{build_bvh, Bvh, BvhNode, Place, Walk};
+pub use bvh::{build_bvh, Bvh, BvhNode, Place, PlaceHit, Walk};
 pub use refusal::Refusal;
 pub use triangle::{HitRecord, Triangle};
 pub use vector::{Ray, Vec3};

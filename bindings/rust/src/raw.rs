@@ -1,14 +1,35 @@
-//! The five calls of the library as they stand, over lent slices.
+//! The calls of the library as they stand, over lent slices.
 //!
 //! No call has a condition of its own: every input gets an answer or a refusal.
 //! What the boundary asks beyond that, a Rust slice or array already is: not
 //! null and aligned also where it is empty, as long as it says, and what is
 //! written (`&mut`) apart from all else. So these are safe, and test nothing.
+//!
+//! The floating-point state is asked to be the one in which a Rust program
+//! starts: rounding to nearest even, subnormals kept, exceptions masked. A build
+//! and a walk divide by zero and make NaNs on purpose, and set the sticky flags;
+//! under a trap, which only foreign code can switch on, they end in SIGFPE. Flags
+//! that are set already change no answer.
 
 use crate::ffi;
 
 /// The answer of [`walk`] for a hit, and the outcome that [`sky`] tells of one.
 pub const HIT: u32 = 100;
+
+/// The form of the calls that this crate is written for.
+pub const ABI: u32 = 1;
+
+/// The form of the calls that the library has: [`ABI`], where the two belong
+/// together.
+///
+/// ```
+/// assert_eq!(pigeonmast::raw::abi(), pigeonmast::raw::ABI);
+/// ```
+#[must_use]
+pub fn abi() -> u32 {
+    // SAFETY: it takes nothing.
+    unsafe { ffi::pigeonmast_abi() }
+}
 
 /// Builds the tree of `triangles`, twelve numbers each, into the lent buffers.
 ///
@@ -41,7 +62,7 @@ pub fn build(
             boxes.len(),
             links.as_mut_ptr(),
             links.len(),
-            told.as_mut_ptr(),
+            told,
         )
     }
 }
@@ -80,9 +101,9 @@ pub fn walk(
             boxes.len(),
             links.as_ptr(),
             links.len(),
-            ray.as_ptr(),
-            numbers.as_mut_ptr(),
-            told.as_mut_ptr(),
+            ray,
+            numbers,
+            told,
         )
     }
 }
@@ -132,7 +153,7 @@ pub fn sky(
             times.len(),
             told.as_mut_ptr(),
             told.len(),
-            at.as_mut_ptr(),
+            at,
         )
     }
 }
@@ -141,7 +162,7 @@ pub fn sky(
 /// unchanged. Answers on every number.
 pub fn slab(bounds: &[f64; 6], ray: &[f64; 6], times: &mut [f64; 2]) -> u32 {
     // SAFETY: three arrays of the lengths that the call is declared with.
-    unsafe { ffi::pigeonmast_slab(bounds.as_ptr(), ray.as_ptr(), times.as_mut_ptr()) }
+    unsafe { ffi::pigeonmast_slab(bounds, ray, times) }
 }
 
 /// Where a ray meets a triangle: 2 for its front or 1 for its back with
@@ -149,5 +170,5 @@ pub fn slab(bounds: &[f64; 6], ray: &[f64; 6], times: &mut [f64; 2]) -> u32 {
 /// number.
 pub fn triangle(triangle: &[f64; 12], ray: &[f64; 6], numbers: &mut [f64; 7]) -> u32 {
     // SAFETY: three arrays of the lengths that the call is declared with.
-    unsafe { ffi::pigeonmast_triangle(triangle.as_ptr(), ray.as_ptr(), numbers.as_mut_ptr()) }
+    unsafe { ffi::pigeonmast_triangle(triangle, ray, numbers) }
 }

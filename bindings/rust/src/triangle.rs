@@ -1,10 +1,17 @@
+use std::mem::ManuallyDrop;
+use std::slice;
+
 use crate::{raw, Ray, Vec3};
 
 /// A triangle with its normal, which is taken as given.
 ///
 /// Admitted for a build: vertices up to 2^40 along each axis, the normal's
 /// numbers up to 2.
+///
+/// In memory it is the twelve numbers of [`Triangle::numbers`], so that a mesh
+/// can be lent where it stands.
 #[derive(Clone, Copy, Debug, PartialEq)]
+#[repr(C)]
 pub struct Triangle {
     /// First vertex.
     pub v0: Vec3,
@@ -16,8 +23,13 @@ pub struct Triangle {
     pub normal: Vec3,
 }
 
+const _: () = assert!(
+    size_of::<Triangle>() == size_of::<[f64; 12]>() && align_of::<Triangle>() == align_of::<f64>()
+);
+
 /// Where a ray meets a triangle.
 #[derive(Clone, Copy, Debug, PartialEq)]
+#[non_exhaustive]
 pub struct HitRecord {
     /// The ray's parameter there.
     pub t: f64,
@@ -52,17 +64,36 @@ impl Triangle {
         [a.x, a.y, a.z, b.x, b.y, b.z, c.x, c.y, c.z, n.x, n.y, n.z]
     }
 
+    /// Many as they are lent, twelve numbers each, where they stand.
+    #[must_use]
+    pub fn all_numbers(triangles: &[Self]) -> &[f64] {
+        // SAFETY: with `repr(C)` a triangle is its twelve f64 in the order of its
+        // fields, without padding and aligned as one of them (asserted above); so
+        // the slice's memory is that of 12 * len f64, and it is borrowed as long.
+        unsafe { slice::from_raw_parts(triangles.as_ptr().cast(), 12 * triangles.len()) }
+    }
+
+    /// The same of a list, which is taken over without a copy.
+    pub(crate) fn into_numbers(triangles: Vec<Self>) -> Vec<f64> {
+        let mut list = ManuallyDrop::new(triangles);
+        let (at, len, room) = (list.as_mut_ptr(), list.len(), list.capacity());
+        // SAFETY: as in `all_numbers`; and what was allocated for `room` triangles
+        // is what 12 * room f64 take, with the same alignment. `list` is not dropped.
+        unsafe { Vec::from_raw_parts(at.cast(), 12 * len, 12 * room) }
+    }
+
+    /// The triangles that stand in a list of numbers; what is left over is left out.
+    pub(crate) fn of_numbers(numbers: &[f64]) -> &[Self] {
+        // SAFETY: as in `all_numbers`, for as many triangles as are whole.
+        unsafe { slice::from_raw_parts(numbers.as_ptr().cast(), numbers.len() / 12) }
+    }
+
     /// Where the ray meets this triangle, which the hit calls `number`. It
     /// answers on every number.
     ///
     /// ```
     /// use pigeonmast::{Ray, Triangle, Vec3};
-    /// let t = Triangle {
-    ///     v0: Vec3::new(0.0, 0.0, 0.0),
-    ///     v1: Vec3::new(1.0, 0.0, 0.0),
-    ///     v2: Vec3::new(0.0, 1.0, 0.0),
-    ///     normal: Vec3::new(0.0, 0.0, 1.0),
-    /// };
+    /// let t = Triangle::from([0.0, 0.0, 0.0, 1.0, 0.0, 0.0, 0.0, 1.0, 0.0, 0.0, 0.0, 1.0]);
     /// let up = Ray::new(Vec3::new(0.25, 0.25, -1.0), Vec3::new(0.0, 0.0, 1.0));
     /// let hit = t.intersect(&up, 0).expect("from below");
     /// assert_eq!((hit.t, hit.is_front_face, hit.normal.z), (1.0, false, -1.0));
@@ -74,5 +105,22 @@ impl Triangle {
             0 => None,
             side => Some(HitRecord::new(numbers, side == 2, number)),
         }
+    }
+}
+
+impl From<[f64; 12]> for Triangle {
+    fn from([ax, ay, az, bx, by, bz, cx, cy, cz, nx, ny, nz]: [f64; 12]) -> Self {
+        Self {
+            v0: Vec3::new(ax, ay, az),
+            v1: Vec3::new(bx, by, bz),
+            v2: Vec3::new(cx, cy, cz),
+            normal: Vec3::new(nx, ny, nz),
+        }
+    }
+}
+
+impl From<Triangle> for [f64; 12] {
+    fn from(triangle: Triangle) -> Self {
+        triangle.numbers()
     }
 }

@@ -59,12 +59,25 @@ impl Ray {
         [o.x, o.y, o.z, d.x, d.y, d.z]
     }
 
-    /// Many as they are lent: six numbers each.
-    pub(crate) fn all_numbers(rays: &[Self]) -> &[f64] {
+    /// Many as they are lent, six numbers each, where they stand.
+    #[must_use]
+    pub fn all_numbers(rays: &[Self]) -> &[f64] {
         const { assert!(size_of::<Self>() == size_of::<[f64; 6]>()) };
         // SAFETY: with `repr(C)` a ray is its six f64 in the order of its fields,
         // without padding and aligned as one of them; so the slice's memory is
         // that of 6 * len f64, and it is borrowed as long.
         unsafe { slice::from_raw_parts(rays.as_ptr().cast(), 6 * rays.len()) }
+    }
+}
+
+impl From<[f64; 6]> for Ray {
+    fn from([ox, oy, oz, dx, dy, dz]: [f64; 6]) -> Self {
+        Self::new(Vec3::new(ox, oy, oz), Vec3::new(dx, dy, dz))
+    }
+}
+
+impl From<Ray> for [f64; 6] {
+    fn from(ray: Ray) -> Self {
+        ray.numbers()
     }
 }

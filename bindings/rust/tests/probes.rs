@@ -1,4 +1,4 @@
-//! Document 01's probe table, called from Rust.
+//! The probe table (docs/RULES.md), called from Rust.
 
 use pigeonmast::{build_bvh, ray_aabb_slab_test, Aabb, Bvh, Ray, Triangle, Vec3, Walk};
 

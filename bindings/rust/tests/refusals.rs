@@ -1,5 +1,7 @@
 //! Bad input gets its refusal, never a panic, and what is lent stays.
 
+use std::num::NonZeroUsize;
+
 use pigeonmast::{build_bvh, raw, Bvh, Ray, Refusal, Triangle, Vec3};
 
 const T: [f64; 12] = [0.0, 0.0, 0.0, 1.0, 0.0, 0.0, 0.0, 1.0, 0.0, 0.0, 0.0, 1.0];
@@ -151,16 +153,24 @@ fn of_a_ray_among_others() {
     for (place, ray) in places.iter().zip(&lent) {
         match (place, bvh.intersect(ray)) {
             (Ok(place), Ok(walk)) => {
-                assert_eq!(place.hit, walk.hit.map(|h| (h.triangle, h.t)));
+                let found = place.hit.map(|h| (h.triangle, h.t));
+                assert_eq!(found, walk.hit.map(|h| (h.triangle, h.t)));
                 assert_eq!(place.box_tests, walk.box_tests);
                 assert_eq!(place.triangle_tests, walk.triangle_tests);
             }
             (place, one) => assert_eq!(place.unwrap_err(), one.unwrap_err()),
         }
     }
+    for threads in [1, 2, 3, 8] {
+        let threads = NonZeroUsize::new(threads).unwrap();
+        assert_eq!(bvh.sky_parallel(&lent, threads), Ok(places.clone()));
+        assert_eq!(bvh.sky_parallel(&[], threads), Ok(vec![]));
+    }
     assert_eq!(bvh.sky(&[]), Ok(vec![]));
     let ragged = Bvh::from_lists(T[..11].to_vec(), vec![0], UNIT.to_vec(), vec![0, 1, 1]);
     assert_eq!(told_of(ragged.sky(&[])), (1, 0));
+    let two = NonZeroUsize::new(2).unwrap();
+    assert_eq!(told_of(ragged.sky_parallel(&lent, two)), (1, 0));
 }
 
 fn told_of<T: std::fmt::Debug>(answer: Result<T, Refusal>) -> (u32, u64) {
@@ -181,11 +191,12 @@ fn leave_numbers_and_times_alone() {
 }
 
 #[test]
-fn read_as_the_document_words_them() {
+fn say_what_is_wrong_and_what_to_do() {
     let refusal = Bvh::from_numbers(vec![f64::NAN; 12]).unwrap_err();
+    assert_eq!(refusal, Refusal::TriangleNotAdmitted { triangle: 0 });
     assert_eq!(
         refusal.to_string(),
-        "refused 5 at 0: a triangle isn't admitted"
+        "refused 5: triangle 0 has a number that is not admitted; its vertices must be finite and within 2^40, its normal within 2"
     );
     let _: &dyn std::error::Error = &refusal;
 }

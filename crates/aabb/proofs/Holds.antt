@@ -16,7 +16,7 @@ use Rattle.float.proofs.Pick.{lesser-left, lesser-right, greater-left, greater-
 use Rattle.aabb.specs.declared.vector.Vec3.{Vec3}
 use Rattle.aabb.specs.declared.bounds.Aabb.{Aabb}
 use Rattle.aabb.specs.Vector.{vec, along, all, within, allWithin, allAtMost, least, greatest}
-use Rattle.aabb.specs.Bounds.{box, emptyBox, grown, union, ofThree, bounded, isEmpty, usable, contains, holds}
+use Rattle.aabb.specs.Bounds.{box, emptyBox, Clear, grown, union, ofThree, bounded, isEmpty, usable, contains, holds}
 use Rattle.aabb.proofs.Axis.{all-along, all-from, within-along, at-most-along, at-most-from, along-least, along-greatest}
 
 -- ---- vectors
@@ -63,18 +63,13 @@ module _ (P : Float → Bool) (a b : Vec3) (p : T (all P a)) (q : T (all P b)) w
   greatest-all = all-from P (greatest a b) (λ k. rw (along-greatest a b k) (greater-one P (along k a) (along k b) (all-along P a k p) (all-along P b k q)))
 
 -- ---- boxes
--- a box with no NaN in it
-pub record Numbers (b : Aabb) : Type 0 where
-  pub low : T (all real (b .min))
-  pub high : T (all real (b .max))
-
 pub contains-trans : (c b a : Aabb) → T (contains c b) → T (contains b a) → T (contains c a)
 unfolding contains
 contains-trans c b a h k =
     and-i (allAtMost (c .min) (a .min)) (allAtMost (a .max) (c .max)) (at-most-trans (c .min) (b .min) (a .min) (search (and-l, and-r)) (search (and-l, and-r)))
     (at-most-trans (a .max) (b .max) (c .max) (search (and-l, and-r)) (search (and-l, and-r)))
 
-module _ (b o : Aabb) (p : Numbers b) (q : Numbers o) where
+module _ (b o : Aabb) (p : Clear b) (q : Clear o) where
   pub union-left : T (contains (union b o) b)
   unfolding contains union
   union-left =
@@ -84,10 +79,6 @@ module _ (b o : Aabb) (p : Numbers b) (q : Numbers o) where
   unfolding contains union
   union-right =
       and-i (allAtMost (least (b .min) (o .min)) (o .min)) (allAtMost (o .max) (greatest (b .max) (o .max))) (least-right (b .min) (o .min) (p .low) (q .low)) (greatest-right (b .max) (o .max) (p .high) (q .high))
-
-  pub union-numbers : Numbers (union b o)
-  unfolding union
-  union-numbers = record { low = least-all real (b .min) (o .min) (p .low) (q .low); high = greatest-all real (b .max) (o .max) (p .high) (q .high) }
 
 -- the parts of `bounded`
 pub record Bounded (b : Aabb) : Type 0 where
@@ -104,7 +95,7 @@ unfolding bounded
 parts-bounded b p =
     and-i (allWithin two-to-40 (b .min)) (allWithin two-to-40 (b .max) && allAtMost (b .min) (b .max)) (p .low) (and-i (allWithin two-to-40 (b .max)) (allAtMost (b .min) (b .max)) (p .high) (p .ordered))
 
-pub bounded-numbers : (b : Aabb) → T (bounded b) → Numbers b
+pub bounded-numbers : (b : Aabb) → T (bounded b) → Clear b
 bounded-numbers b h = let p = bounded-parts b h in record { low = within-real (b .min) (p .low); high = within-real (b .max) (p .high) }
 
 pub bounded-usable : (b : Aabb) → T (bounded b) → T (usable b)

@@ -23,7 +23,7 @@ use Rattle.aabb.specs.declared.slab.Span.{Span}
 use Rattle.aabb.specs.declared.slab.Span.the-variants.{Passed, Missed}
 use Rattle.aabb.specs.Vector.{along, allEqual, admittedRay}
 use Rattle.aabb.specs.Bounds.{bounded, isEmpty, usable, contains}
-use Rattle.aabb.specs.Slab.{reach, first, second, parallel, unlessLater, clipped, narrowed, andThen, ahead, onAxis, slabFrom, slab, isPassed, passes}
+use Rattle.aabb.specs.Slab.{sighted, aimed, sightOn, reach, first, second, parallel, unlessLater, clipped, narrowed, andThen, ahead, onAxis, throughFrom, through, slab, isPassed, passes}
 use Rattle.aabb.proofs.Axis.{all-along, within-along, at-most-along}
 
 nought-real : T (le nought nought)
@@ -176,33 +176,33 @@ module _ (o d lo' hi' lo hi : Float) (c : Fine o d lo' hi' lo hi) where
     closer : (p q : Float) → T (le (magnitude p) two-to-40) → T (le (magnitude q) two-to-40) → T (le p q) → T (le (sub binary64 p o) (sub binary64 q o))
     closer p q h k l = sub-mono binary64 p q o (two-to-40-finite p h) (two-to-40-finite q k) (two-to-40-finite o (c .at)) l
 
-    reach-mono : loss (div binary64 one d) ≡ 0 → (p q : Float) → T (le (magnitude p) two-to-40) → T (le (magnitude q) two-to-40) → T (le p q) → T (le (reach o d p) (reach o d q))
-    unfolding reach
+    reach-mono : loss (div binary64 one d) ≡ 0 → (p q : Float) → T (le (magnitude p) two-to-40) → T (le (magnitude q) two-to-40) → T (le p q) → T (le (reach (sighted o d) p) (reach (sighted o d) q))
+    unfolding reach sighted
     reach-mono z p q h k l = mul-mono binary64 (sub binary64 p o) (sub binary64 q o) (div binary64 one d) (fine p h) (fine q k) inv z (closer p q h k l)
 
-    reach-anti : gain (div binary64 one d) ≡ 0 → (p q : Float) → T (le (magnitude p) two-to-40) → T (le (magnitude q) two-to-40) → T (le p q) → T (le (reach o d q) (reach o d p))
-    unfolding reach
+    reach-anti : gain (div binary64 one d) ≡ 0 → (p q : Float) → T (le (magnitude p) two-to-40) → T (le (magnitude q) two-to-40) → T (le p q) → T (le (reach (sighted o d) q) (reach (sighted o d) p))
+    unfolding reach sighted
     reach-anti z p q h k l = mul-anti binary64 (sub binary64 p o) (sub binary64 q o) (div binary64 one d) (fine p h) (fine q k) inv z (closer p q h k l)
 
-    exchanged : (T (le (first (reach o d lo') (reach o d hi')) (first (reach o d lo) (reach o d hi)))) × (T (le (second (reach o d lo) (reach o d hi)) (second (reach o d lo') (reach o d hi'))))
+    exchanged : (T (le (first (reach (sighted o d) lo') (reach (sighted o d) hi')) (first (reach (sighted o d) lo) (reach (sighted o d) hi)))) × (T (le (second (reach (sighted o d) lo) (reach (sighted o d) hi)) (second (reach (sighted o d) lo') (reach (sighted o d) hi'))))
     exchanged =
         elim (side (div binary64 one d) inv) [
           | inl z ↦
-              spread-up (reach o d lo') (reach o d hi') (reach o d lo) (reach o d hi) (reach-mono z lo' lo (c .low') (c .low) (c .below)) (reach-mono z hi hi' (c .high) (c .high') (c .above)) (reach-mono z lo hi (c .low) (c .high) (c .ordered))
+              spread-up (reach (sighted o d) lo') (reach (sighted o d) hi') (reach (sighted o d) lo) (reach (sighted o d) hi) (reach-mono z lo' lo (c .low') (c .low) (c .below)) (reach-mono z hi hi' (c .high) (c .high') (c .above)) (reach-mono z lo hi (c .low) (c .high) (c .ordered))
           | inr z ↦
-              spread-down (reach o d lo') (reach o d hi') (reach o d lo) (reach o d hi) (reach-anti z hi hi' (c .high) (c .high') (c .above)) (reach-anti z lo' lo (c .low') (c .low) (c .below)) (reach-anti z lo hi (c .low) (c .high) (c .ordered))
+              spread-down (reach (sighted o d) lo') (reach (sighted o d) hi') (reach (sighted o d) lo) (reach (sighted o d) hi) (reach-anti z hi hi' (c .high) (c .high') (c .above)) (reach-anti z lo' lo (c .low') (c .low) (c .below)) (reach-anti z lo hi (c .low) (c .high) (c .ordered))
         ]
 
-  narrowed-wider : (e' x' e x : Float) → T (le e' e) → T (le x x') → Wider (narrowed o d lo' hi' e' x') (narrowed o d lo hi e x)
-  unfolding narrowed
+  narrowed-wider : (e' x' e x : Float) → T (le e' e) → T (le x x') → Wider (narrowed (sighted o d) lo' hi' e' x') (narrowed (sighted o d) lo hi e x)
+  unfolding narrowed sighted
   narrowed-wider e' x' e x h k = go (lt (magnitude d) trillionth) (not-lt→le trillionth (magnitude d) trillionth-real (magnitude-real d (c .along)))
     where
       go : (t : Bool) → (T (not t) → T (le trillionth (magnitude d)))
-          → Wider (cond t (parallel o lo' hi' e' x') (clipped (reach o d lo') (reach o d hi') e' x')) (cond t (parallel o lo hi e x) (clipped (reach o d lo) (reach o d hi) e x))
+          → Wider (cond t (parallel o lo' hi' e' x') (clipped (reach (sighted o d) lo') (reach (sighted o d) hi') e' x')) (cond t (parallel o lo hi e x) (clipped (reach (sighted o d) lo) (reach (sighted o d) hi) e x))
       go true n = parallel-wider e' x' e x h k
       go false n =
           let w = exchanged (power-finite (div binary64 one d) 40 (inverse-most d (c .along) (n tt))) in
-          clipped-wider (reach o d lo') (reach o d hi') (reach o d lo) (reach o d hi) e' x' e x (w .0) (w .1) h k
+          clipped-wider (reach (sighted o d) lo') (reach (sighted o d) hi') (reach (sighted o d) lo) (reach (sighted o d) hi) e' x' e x (w .0) (w .1) h k
 
 -- ---- every axis
 module _ (r : Ray) (b a : Aabb) (R : T (admittedRay r)) (B : T (bounded b)) (A : T (bounded a)) (H : T (contains b a)) where
@@ -220,18 +220,24 @@ module _ (r : Ray) (b a : Aabb) (R : T (admittedRay r)) (B : T (bounded b)) (A :
     above = at-most-along (a .max) (b .max) k (search (and-l, and-r));
   }
 
-  axis-wider : (k : ℕ) (e' x' e x : Float) → T (le e' e) → T (le x x') → Wider (onAxis r b k e' x') (onAxis r a k e x)
-  unfolding onAxis
-  axis-wider k = narrowed-wider (along k (r .origin)) (along k (r .direction)) (along k (b .min)) (along k (b .max)) (along k (a .min)) (along k (a .max)) (fine-on k)
+  sight-is : (k : ℕ) → sightOn k (aimed r) ≡ sighted (along k (r .origin)) (along k (r .direction))
+  unfolding sightOn aimed along
+  sight-is zero = refl
+  sight-is (suc zero) = refl
+  sight-is (suc (suc k)) = refl
 
-  from-wider : (left k : ℕ) (e' x' e x : Float) → T (le e' e) → T (le x x') → Wider (slabFrom r b left k e' x') (slabFrom r a left k e x)
-  unfolding slabFrom
+  axis-wider : (k : ℕ) (e' x' e x : Float) → T (le e' e) → T (le x x') → Wider (onAxis (aimed r) b k e' x') (onAxis (aimed r) a k e x)
+  unfolding onAxis
+  axis-wider k = rw (sight-is k) (narrowed-wider (along k (r .origin)) (along k (r .direction)) (along k (b .min)) (along k (b .max)) (along k (a .min)) (along k (a .max)) (fine-on k))
+
+  from-wider : (left k : ℕ) (e' x' e x : Float) → T (le e' e) → T (le x x') → Wider (throughFrom (aimed r) b left k e' x') (throughFrom (aimed r) a left k e x)
+  unfolding throughFrom
   from-wider zero k e' x' e x h j = ahead-wider e' x' e x h j
-  from-wider (suc left) k e' x' e x h j = andThen-wider _ _ (slabFrom r b left (suc k)) (slabFrom r a left (suc k)) (axis-wider k e' x' e x h j) (from-wider left (suc k))
+  from-wider (suc left) k e' x' e x h j = andThen-wider _ _ (throughFrom (aimed r) b left (suc k)) (throughFrom (aimed r) a left (suc k)) (axis-wider k e' x' e x h j) (from-wider left (suc k))
 
   -- b is entered no later than a, and left no earlier
   pub slab-wider : Wider (slab r b) (slab r a)
-  unfolding slab
+  unfolding slab through
   slab-wider = from-wider 3 0 nought infinity nought infinity nought-real infinity-real
 
   pub inside : T (passes r a) → T (passes r b)

@@ -1,6 +1,6 @@
--- What the code of vectors, boxes and slabs tests is what the definitions say: one law for each kind of branch. Assumes nothing.
+-- What the code of vectors and boxes tests is what the definitions say: one law for each kind of branch. Assumes nothing.
 use mathlib.Core.Path.{_≡_, refl, sym, _∙_}
-use Prim.Native.Nat.{ℕ, zero, suc, _+_, _-_, _*_, _/_, _≤_, _<_, min}
+use Prim.Native.Nat.{ℕ, zero, suc, _+_, _*_, _/_, _≤_, _<_, min}
 use native.Mathlib.Nat.{add-assoc, add-zero, mul-zero, mul-le-mul-right, div-mul-le-self, lt-div-mul-add}
 use native.Mathlib.Omega.{arith, min-cases}
 use mathlib.Core.Bool.{Bool, true, false, _&&_, _||_}
@@ -8,19 +8,15 @@ use mathlib.Core.List.{List}
 use lib.Dec.{T}
 use lib.IntN.{ℤ}
 use lib.ListN.{length, List·getD-eq-default}
-use lib.Ieee.{Float, nan, inf, fin, binary64, ofBits, add, sub, mul, div, neg, lt, le}
-use Rattle.float.specs.Number.{nought, one, two, trillionth, infinity}
+use lib.Ieee.{Float, nan, inf, fin, binary64, ofBits, add, mul, div, neg, lt, le}
+use Rattle.float.specs.Number.{nought, two, infinity}
 use Rattle.float.specs.Pick.{magnitude}
 use Rattle.float.proofs.Order.{under→le, le-trans}
 use Rattle.float.proofs.Total.{and-go, and-no}
 use Rattle.aabb.specs.declared.vector.Vec3.{Vec3}
 use Rattle.aabb.specs.declared.bounds.Aabb.{Aabb}
-use Rattle.aabb.specs.declared.vector.Ray.{Ray}
-use Rattle.aabb.specs.declared.slab.Span.{Span}
-use Rattle.aabb.specs.declared.slab.Span.the-variants.{Passed, Missed}
 use Rattle.aabb.specs.Vector.{vec, along, within, allEqual, numberAt, vectorAt}
 use Rattle.aabb.specs.Bounds.{extent, area, areaOf, isEmpty, box}
-use Rattle.aabb.specs.Slab.{reach, parallel, clipped, narrowed, andThen, ahead, onAxis, slabFrom}
 
 -- ---- two tests in a row
 pub or-yes : (a b : Bool) → a ≡ true → true ≡ (a || b)
@@ -47,7 +43,7 @@ below m e = under→le (fin true m e) (fin false m e) tt tt (omega arith)
 infinities : T (le (inf true) (inf false))
 infinities = unfold le in tt
 
-sides : (x l : Float) → le (magnitude x) l ≡ (le x l && le (neg x) l)
+pub sides : (x l : Float) → le (magnitude x) l ≡ (le x l && le (neg x) l)
 unfolding neg
 sides nan l = unfold le in refl
 sides (inf true) l = both-turned (le (inf true) l) (le (inf false) l) (le-trans (inf true) (inf false) l infinities)
@@ -89,38 +85,6 @@ pub area-full : (b : Aabb) (d : Vec3) → d ≡ extent b → false ≡ Negative 
     → mul binary64 two (add binary64 (add binary64 (mul binary64 (d .x) (d .y)) (mul binary64 (d .y) (d .z))) (mul binary64 (d .z) (d .x))) ≡ area b
 unfolding area areaOf
 area-full b d p q = rw (← p, ← q)
-
--- ---- slabs
-pub along-slab : (o d lo hi enter exit m : Float) (s : Span) → m ≡ magnitude d → lt m trillionth ≡ true → s ≡ parallel o lo hi enter exit → s ≡ narrowed o d lo hi enter exit
-unfolding narrowed
-along-slab o d lo hi enter exit m s p q r = rw (← p, q) r
-
-pub through-slab : (o d lo hi enter exit m : Float) (s : Span) → m ≡ magnitude d → lt m trillionth ≡ false
-    → s ≡ clipped (mul binary64 (sub binary64 lo o) (div binary64 one d)) (mul binary64 (sub binary64 hi o) (div binary64 one d)) enter exit
-    → s ≡ narrowed o d lo hi enter exit
-unfolding narrowed reach
-through-slab o d lo hi enter exit m s p q r = rw (← p, q) r
-
--- with all axes done, with an axis that rules the box out, and with one that does not
-pub slab-end : (r : Ray) (b : Aabb) (axis : ℕ) (enter exit : Float) → axis ≡ 3 → slabFrom r b (3 - axis) axis enter exit ≡ ahead enter exit
-unfolding slabFrom
-slab-end r b axis enter exit p = rw p
-
-slab-opens : (r : Ray) (b : Aabb) (axis : ℕ) (enter exit : Float) → axis < 3 → slabFrom r b (3 - axis) axis enter exit ≡ andThen (onAxis r b axis enter exit) (slabFrom r b (3 - (axis + 1)) (axis + 1))
-unfolding slabFrom
-slab-opens r b zero enter exit h = refl
-slab-opens r b (suc zero) enter exit h = refl
-slab-opens r b (suc (suc zero)) enter exit h = refl
-slab-opens r b (suc (suc (suc k))) enter exit h = absurd (omega arith)
-
-pub slab-stop : (r : Ray) (b : Aabb) (axis : ℕ) (enter exit : Float) → axis < 3 → onAxis r b axis enter exit ≡ Missed → Missed ≡ slabFrom r b (3 - axis) axis enter exit
-unfolding andThen
-slab-stop r b axis enter exit h p = rw (slab-opens r b axis enter exit h, p)
-
-pub slab-next : (r : Ray) (b : Aabb) (axis : ℕ) (enter exit later sooner : Float) → axis < 3 → onAxis r b axis enter exit ≡ Passed later sooner
-    → slabFrom r b (3 - (axis + 1)) (axis + 1) later sooner ≡ slabFrom r b (3 - axis) axis enter exit
-unfolding andThen
-slab-next r b axis enter exit later sooner h p = rw (slab-opens r b axis enter exit h, p)
 
 -- ---- numbers of a lent slice
 nan-is : div binary64 (ofBits binary64 0) (ofBits binary64 0) ≡ nan

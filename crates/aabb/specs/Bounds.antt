@@ -2,11 +2,12 @@
 use Prim.Native.Nat.{ℕ, _+_, _*_}
 use mathlib.Core.Bool.{Bool, _&&_, _||_, cond}
 use mathlib.Core.List.{List}
+use lib.Dec.{T}
 use lib.Ieee.{Float, binary64, add, mul, neg, lt}
-use Rattle.float.specs.Number.{nought, half, two, two-to-40, infinity}
+use Rattle.float.specs.Number.{real, nought, half, two, two-to-40, infinity}
 use Rattle.aabb.specs.declared.vector.Vec3.{Vec3}
 use Rattle.aabb.specs.declared.bounds.Aabb.{Aabb}
-use Rattle.aabb.specs.Vector.{vec, all, plus, minus, scaled, least, greatest, allWithin, allAtMost, allEqual, vectorAt}
+use Rattle.aabb.specs.Vector.{vec, all, plus, minus, scaled, least, greatest, lowest, highest, allWithin, allAtMost, allEqual, vectorAt}
 
 abbrev pub box : Vec3 → Vec3 → Aabb
 box a b = record { min = a; max = b }
@@ -20,6 +21,18 @@ grown b p = box (least (b .min) p) (greatest (b .max) p)
 
 unfoldable pub union : Aabb → Aabb → Aabb
 union b o = box (least (b .min) (o .min)) (greatest (b .max) (o .max))
+
+-- no number of the box is a NaN: so it is with every box that has grown from the empty one
+pub record Clear (b : Aabb) : Type 0 where
+  pub low : T (all real (b .min))
+  pub high : T (all real (b .max))
+
+-- grown, and the union, by one comparison a number: the same where the first box is clear (proofs/Running.antt)
+unfoldable pub widened : Aabb → Vec3 → Aabb
+widened b p = box (lowest (b .min) p) (highest (b .max) p)
+
+unfoldable pub joined : Aabb → Aabb → Aabb
+joined b o = box (lowest (b .min) (o .min)) (highest (b .max) (o .max))
 
 unfoldable pub ofThree : Vec3 → Vec3 → Vec3 → Aabb
 ofThree p q r = grown (grown (grown emptyBox p) q) r

@@ -8,11 +8,32 @@ use Rattle.aabb.specs.declared.vector.Ray.{Ray}
 use Rattle.aabb.specs.declared.bounds.Aabb.{Aabb}
 use Rattle.aabb.specs.declared.slab.Span.{Span}
 use Rattle.aabb.specs.declared.slab.Span.the-variants.{Passed, Missed}
+use Rattle.aabb.specs.declared.slab.Sight.{Sight}
+use Rattle.aabb.specs.declared.slab.Aim.{Aim}
 use Rattle.aabb.specs.Vector.{along}
 
--- inv = 1/dir, t0 = (min-origin)·inv, t1 = (max-origin)·inv
-unfoldable pub reach : Float → Float → Float → Float
-reach origin dir plane = mul binary64 (sub binary64 plane origin) (div binary64 one dir)
+-- ---- what of a ray is the same for every box
+-- inv = 1/dir, and whether |dir| < 1e-12
+unfoldable pub sighted : Float → Float → Sight
+sighted origin dir = record { origin = origin; inv = div binary64 one dir; flat = lt (magnitude dir) trillionth }
+
+unfoldable pub aimed : Ray → Aim
+aimed r = record {
+  ray = r;
+  x = sighted (r .origin .x) (r .direction .x);
+  y = sighted (r .origin .y) (r .direction .y);
+  z = sighted (r .origin .z) (r .direction .z);
+}
+
+unfoldable pub sightOn : ℕ → Aim → Sight
+sightOn zero m = m .x
+sightOn (suc zero) m = m .y
+sightOn (suc (suc k)) m = m .z
+
+-- ---- one axis
+-- t0 = (min-origin)·inv, t1 = (max-origin)·inv
+unfoldable pub reach : Sight → Float → Float
+reach s plane = mul binary64 (sub binary64 plane (s .origin)) (s .inv)
 
 -- t0 and t1, exchanged if t0 > t1
 unfoldable pub first : Float → Float → Float
@@ -33,11 +54,10 @@ unlessLater enter exit = cond (lt exit enter) Missed (Passed enter exit)
 unfoldable pub clipped : Float → Float → Float → Float → Span
 clipped t0 t1 enter exit = unlessLater (greater enter (first t0 t1)) (lesser exit (second t0 t1))
 
--- one axis
-unfoldable pub narrowed : Float → Float → Float → Float → Float → Float → Span
-narrowed origin dir min max enter exit =
-    cond (lt (magnitude dir) trillionth) (parallel origin min max enter exit) (clipped (reach origin dir min) (reach origin dir max) enter exit)
+unfoldable pub narrowed : Sight → Float → Float → Float → Float → Span
+narrowed s min max enter exit = cond (s .flat) (parallel (s .origin) min max enter exit) (clipped (reach s min) (reach s max) enter exit)
 
+-- ---- the axes
 -- The test stops at the first axis that rules it out.
 unfoldable pub andThen : Span → (Float → Float → Span) → Span
 andThen Missed next = Missed
@@ -47,16 +67,19 @@ andThen (Passed enter exit) next = next enter exit
 unfoldable pub ahead : Float → Float → Span
 ahead enter exit = cond (lt exit nought) Missed (Passed enter exit)
 
-unfoldable pub onAxis : Ray → Aabb → ℕ → Float → Float → Span
-onAxis r b axis enter exit = narrowed (along axis (r .origin)) (along axis (r .direction)) (along axis (b .min)) (along axis (b .max)) enter exit
+unfoldable pub onAxis : Aim → Aabb → ℕ → Float → Float → Span
+onAxis m b axis enter exit = narrowed (sightOn axis m) (along axis (b .min)) (along axis (b .max)) enter exit
 
 -- the axes from `axis` on, as many as `left` says
-unfoldable pub slabFrom : Ray → Aabb → ℕ → ℕ → Float → Float → Span
-slabFrom r b zero axis enter exit = ahead enter exit
-slabFrom r b (suc left) axis enter exit = andThen (onAxis r b axis enter exit) (slabFrom r b left (suc axis))
+unfoldable pub throughFrom : Aim → Aabb → ℕ → ℕ → Float → Float → Span
+throughFrom m b zero axis enter exit = ahead enter exit
+throughFrom m b (suc left) axis enter exit = andThen (onAxis m b axis enter exit) (throughFrom m b left (suc axis))
+
+unfoldable pub through : Aim → Aabb → Span
+through m b = throughFrom m b 3 0 nought infinity
 
 unfoldable pub slab : Ray → Aabb → Span
-slab r b = slabFrom r b 3 0 nought infinity
+slab r b = through (aimed r) b
 
 abbrev pub isPassed : Span → Bool
 isPassed Missed = false

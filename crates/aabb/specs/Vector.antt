@@ -5,7 +5,7 @@ use mathlib.Core.List.{List}
 use lib.ListN.{getD}
 use lib.Ieee.{Float, nan, binary64, add, sub, mul, div, neg, le, eq}
 use Rattle.float.specs.Number.{two, two-to-40}
-use Rattle.float.specs.Pick.{magnitude, lesser, greater}
+use Rattle.float.specs.Pick.{magnitude, lesser, greater, lower, higher}
 use Rattle.aabb.specs.declared.vector.Vec3.{Vec3}
 use Rattle.aabb.specs.declared.vector.Ray.{Ray}
 
@@ -42,6 +42,13 @@ least a b = pairwise lesser a b
 
 unfoldable pub greatest : Vec3 → Vec3 → Vec3
 greatest a b = pairwise greater a b
+
+-- by one comparison a number, which keeps a NaN of the first
+unfoldable pub lowest : Vec3 → Vec3 → Vec3
+lowest a b = pairwise lower a b
+
+unfoldable pub highest : Vec3 → Vec3 → Vec3
+highest a b = pairwise higher a b
 
 -- ---- products
 -- dot is ((x·x' + y·y') + z·z')

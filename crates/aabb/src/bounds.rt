@@ -2,7 +2,7 @@
 use crate::vector;
 use crate::vector::Vec3;
 ghost use mathlib.Core.Path.{_≡_};
-ghost use Rattle.aabb.specs.Bounds.{emptyBox, ofThree, grown, union, center, extent, area, bounded, isEmpty, usable, boxAt};
+ghost use Rattle.aabb.specs.Bounds.{emptyBox, ofThree, grown, union, widened, joined, center, extent, area, bounded, isEmpty, usable, boxAt};
 
 pub struct Aabb {
     pub min: Vec3,
@@ -59,6 +59,25 @@ impl Aabb {
         Aabb { min, max }
     }
 
+    // The box, widened to hold the point, by one comparison a number: as `grow` for every box that has grown from the empty one, which has no NaN; a NaN of
+    // `self` is kept.
+    pub fn widened(self, point: Vec3) -> Aabb
+        ensures { λ r. ⌜ r ≡ widened self point ⌝ }
+    {
+        let min = self.min.lowest(point);
+        let max = self.max.highest(point);
+        Aabb { min, max }
+    }
+
+    // The box, joined with another, likewise: as `union`.
+    pub fn joined(self, other: Aabb) -> Aabb
+        ensures { λ r. ⌜ r ≡ joined self other ⌝ }
+    {
+        let min = self.min.lowest(other.min);
+        let max = self.max.highest(other.max);
+        Aabb { min, max }
+    }
+
     // (min + max)·0.5
     pub fn center(self) -> Vec3
         ensures { λ r. ⌜ r ≡ center self ⌝ }
@@ -90,17 +109,19 @@ impl Aabb {
         2.0 * ((d.x * d.y + d.y * d.z) + d.z * d.x)
     }
 
-    // Whether the six numbers are finite, of magnitude at most 2^40, each min at most its max.
+    // Whether the six numbers are finite, of magnitude at most 2^40, each min at most its max. A NaN fails the first test; after it the lowest
+    // min and the highest max tell for all six.
     pub fn bounded(self) -> bool
         ensures { λ r. ⌜ r ≡ bounded self ⌝ }
     {
-        if self.min.within(1099511627776.0) {
-            if self.max.within(1099511627776.0) {
-                return self.min.at_most(self.max);
-            }
+        if !self.min.at_most(self.max) {
             return false;
         }
-        false
+        let limit = 1099511627776.0;
+        if !(-limit <= float::lower(float::lower(self.min.x, self.min.y), self.min.z)) {
+            return false;
+        }
+        float::higher(float::higher(self.max.x, self.max.y), self.max.z) <= limit
     }
 
     // Whether it is exactly the empty box.
@@ -124,13 +145,35 @@ impl Aabb {
         self.is_empty()
     }
 
-    // Box i of a lent slice, six numbers each: min x, y, z, max x, y, z; a NaN for each place beyond its end.
+    // Box i of a lent slice, six numbers each: min x, y, z, max x, y, z; a NaN for each place beyond its end. One test does for a box that is all there.
     pub fn read(numbers: &[f64], i: usize) -> Aabb
         ensures { λ r. ⌜ r ≡ boxAt (now (numbers .entry)) i ⌝ }
     {
-        let at = vector::place(numbers, i, 6);
-        let min = Vec3::read(numbers, at);
-        let max = Vec3::read(numbers, at + 3);
-        Aabb { min, max }
+        if i < numbers.len() / 6 {
+            let at = i * 6;
+            let min = Vec3 {
+                x: numbers[at],
+                y: numbers[at + 1],
+                z: numbers[at + 2],
+            };
+            let top = at + 3;
+            let max = Vec3 {
+                x: numbers[top],
+                y: numbers[top + 1],
+                z: numbers[top + 2],
+            };
+            return Aabb { min, max };
+        }
+        past_end(numbers, i)
     }
+}
+
+// Box i where not all of its numbers need be there.
+fn past_end(numbers: &[f64], i: usize) -> Aabb
+    ensures { λ r. ⌜ r ≡ boxAt (now (numbers .entry)) i ⌝ }
+{
+    let at = vector::place(numbers, i, 6);
+    let min = Vec3::read(numbers, at);
+    let max = Vec3::read(numbers, at + 3);
+    Aabb { min, max }
 }

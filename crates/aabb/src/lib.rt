@@ -2,9 +2,10 @@
 // Every call answers on every f64. `&mut self` of the Rust hands the value back here; `Option` is the enum `Span`.
 pub mod vector; // vector.rt: Vec3 and Ray
 pub mod bounds; // bounds.rt: Aabb
-pub mod slab; // slab.rt: the slab test and its answer, Span
+pub mod slab; // slab.rt: the slab test, the ray prepared for it (Aim), and its answer, Span
 
 pub use bounds::Aabb;
+pub use slab::Aim;
 pub use slab::Span;
 pub use vector::Ray;
 pub use vector::Vec3;

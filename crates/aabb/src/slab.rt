@@ -1,8 +1,9 @@
-// The slab test of a ray against a box (`ray_aabb_slab_test` and `Aabb::intersect_ray` of the Rust).
+// The slab test of a ray against a box (`ray_aabb_slab_test` and `Aabb::intersect_ray` of the Rust). What of the ray is the same for every box
+// is worked out once, in `Aim`: so a walk, which tests many boxes, runs the same test, `Aim::through`.
 use crate::bounds::Aabb;
 use crate::vector::Ray;
 ghost use mathlib.Core.Path.{_≡_};
-ghost use Rattle.aabb.specs.Slab.{parallel, unlessLater, clipped, narrowed, onAxis, ahead, slab};
+ghost use Rattle.aabb.specs.Slab.{sighted, aimed, sightOn, first, second, ahead, through, slab};
 
 // The times at which a ray enters and leaves a box, or that it misses it.
 pub enum Span {
@@ -10,10 +11,69 @@ pub enum Span {
     Missed,
 }
 
+// One axis of a ray: its origin there, 1/dir, and whether |dir| < 1e-12.
+pub struct Sight {
+    pub origin: f64,
+    pub inv: f64,
+    pub flat: bool,
+}
+
+// A ray, and its three axes.
+pub struct Aim {
+    pub ray: Ray,
+    pub x: Sight,
+    pub y: Sight,
+    pub z: Sight,
+}
+
 impl Aabb {
-    // Enter and exit times of the ray through the box, from 0 on, or Missed. The loop over the axes is left at the first that rules it out.
+    // Enter and exit times of the ray through the box, from 0 on, or Missed.
     pub fn intersect_ray(self, ray: Ray) -> Span
         ensures { λ r. ⌜ r ≡ slab ray self ⌝ }
+    {
+        Aim::of(ray).through(self)
+    }
+}
+
+impl Sight {
+    pub fn of(origin: f64, dir: f64) -> Sight
+        ensures { λ r. ⌜ r ≡ sighted origin dir ⌝ }
+    {
+        Sight {
+            origin,
+            inv: 1.0 / dir,
+            flat: float::magnitude(dir) < 1e-12,
+        }
+    }
+}
+
+impl Aim {
+    // The ray, prepared.
+    pub fn of(ray: Ray) -> Aim
+        ensures { λ r. ⌜ r ≡ aimed ray ⌝ }
+    {
+        let x = Sight::of(ray.origin.x, ray.direction.x);
+        let y = Sight::of(ray.origin.y, ray.direction.y);
+        let z = Sight::of(ray.origin.z, ray.direction.z);
+        Aim { ray, x, y, z }
+    }
+
+    fn along(self, axis: usize) -> Sight
+        ensures { λ r. ⌜ r ≡ sightOn axis self ⌝ }
+    {
+        if axis == 0 {
+            return self.x;
+        }
+        if axis == 1 {
+            return self.y;
+        }
+        self.z
+    }
+
+    // Enter and exit times of the prepared ray through the box, from 0 on, or Missed. The loop over the axes is left at the first that rules it
+    // out. Enter and exit are never a NaN, so one comparison picks the greater and the lesser.
+    pub fn through(self, bounds: Aabb) -> Span
+        ensures { λ r. ⌜ r ≡ through self bounds ⌝ }
     {
         let mut enter = 0.0;
         let mut exit = float::infinity();
@@ -22,16 +82,23 @@ impl Aabb {
             if axis == 3 {
                 break ahead(enter, exit);
             }
-            match on_axis(self, ray, axis, enter, exit) {
-                Span::Missed => {
+            let s = self.along(axis);
+            let min = bounds.min.along(axis);
+            let max = bounds.max.along(axis);
+            if s.flat {
+                if s.origin < min {
                     break Span::Missed;
                 }
-                Span::Passed {
-                    enter: later,
-                    exit: sooner,
-                } => {
-                    enter = later;
-                    exit = sooner;
+                if s.origin > max {
+                    break Span::Missed;
+                }
+            } else {
+                let t0 = (min - s.origin) * s.inv;
+                let t1 = (max - s.origin) * s.inv;
+                enter = float::higher(enter, first(t0, t1));
+                exit = float::lower(exit, second(t0, t1));
+                if enter > exit {
+                    break Span::Missed;
                 }
             }
             axis += 1;
@@ -39,61 +106,17 @@ impl Aabb {
     }
 }
 
-// The interval so far, narrowed by the box's slab on one axis.
-fn on_axis(bounds: Aabb, ray: Ray, axis: usize, enter: f64, exit: f64) -> Span
-    ensures { λ r. ⌜ r ≡ onAxis ray bounds axis enter exit ⌝ }
+// The sooner and the later of the times at which the ray reaches the slab's sides: exchanged if t0 > t1.
+fn first(t0: f64, t1: f64) -> f64
+    ensures { λ r. ⌜ r ≡ first t0 t1 ⌝ }
 {
-    let origin = ray.origin.along(axis);
-    let dir = ray.direction.along(axis);
-    let min = bounds.min.along(axis);
-    let max = bounds.max.along(axis);
-    narrowed(origin, dir, min, max, enter, exit)
+    if t0 > t1 { t1 } else { t0 }
 }
 
-// One axis: origin and direction of the ray, the slab from min to max.
-fn narrowed(origin: f64, dir: f64, min: f64, max: f64, enter: f64, exit: f64) -> Span
-    ensures { λ r. ⌜ r ≡ narrowed origin dir min max enter exit ⌝ }
+fn second(t0: f64, t1: f64) -> f64
+    ensures { λ r. ⌜ r ≡ second t0 t1 ⌝ }
 {
-    if float::magnitude(dir) < 1e-12 {
-        return parallel(origin, min, max, enter, exit);
-    }
-    let inv = 1.0 / dir;
-    let t0 = (min - origin) * inv;
-    let t1 = (max - origin) * inv;
-    clipped(t0, t1, enter, exit)
-}
-
-// A ray along the slab passes where its origin lies inside.
-fn parallel(origin: f64, min: f64, max: f64, enter: f64, exit: f64) -> Span
-    ensures { λ r. ⌜ r ≡ parallel origin min max enter exit ⌝ }
-{
-    if origin < min {
-        return Span::Missed;
-    }
-    if origin > max {
-        return Span::Missed;
-    }
-    Span::Passed { enter, exit }
-}
-
-// The times at which the ray reaches the slab's sides, exchanged if t0 > t1, narrow the interval.
-fn clipped(t0: f64, t1: f64, enter: f64, exit: f64) -> Span
-    ensures { λ r. ⌜ r ≡ clipped t0 t1 enter exit ⌝ }
-{
-    if t0 > t1 {
-        return unless_later(float::greater(enter, t1), float::lesser(exit, t0));
-    }
-    unless_later(float::greater(enter, t0), float::lesser(exit, t1))
-}
-
-// Missed where enter > exit.
-fn unless_later(enter: f64, exit: f64) -> Span
-    ensures { λ r. ⌜ r ≡ unlessLater enter exit ⌝ }
-{
-    if enter > exit {
-        return Span::Missed;
-    }
-    Span::Passed { enter, exit }
+    if t0 > t1 { t0 } else { t1 }
 }
 
 // Last, missed if exit < 0.

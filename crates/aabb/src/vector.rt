@@ -2,7 +2,7 @@
 ghost use mathlib.Core.Path.{_≡_};
 ghost use Prim.Native.Nat.{_*_, min};
 ghost use lib.ListN.{length};
-ghost use Rattle.aabb.specs.Vector.{plus, minus, negated, scaled, divided, dot, cross, least, greatest, along, within, allWithin, allAtMost, allEqual, vectorAt, pointAt, rayAt, admittedRay, numberAt};
+ghost use Rattle.aabb.specs.Vector.{plus, minus, negated, scaled, divided, dot, cross, least, greatest, lowest, highest, along, within, allWithin, allAtMost, allEqual, vectorAt, pointAt, rayAt, admittedRay, numberAt};
 
 pub struct Vec3 {
     pub x: f64,
@@ -102,6 +102,28 @@ impl Vec3 {
         let y = float::greater(self.y, other.y);
         let z = float::greater(self.z, other.z);
         Vec3 { x, y, z }
+    }
+
+    // The lesser numbers by one comparison each: as `least` where no number of `self`, the running one, is a NaN; a NaN there is kept.
+    pub fn lowest(self, other: Vec3) -> Vec3
+        ensures { λ r. ⌜ r ≡ lowest self other ⌝ }
+    {
+        Vec3 {
+            x: float::lower(self.x, other.x),
+            y: float::lower(self.y, other.y),
+            z: float::lower(self.z, other.z),
+        }
+    }
+
+    // The greater numbers, likewise: as `greatest`.
+    pub fn highest(self, other: Vec3) -> Vec3
+        ensures { λ r. ⌜ r ≡ highest self other ⌝ }
+    {
+        Vec3 {
+            x: float::higher(self.x, other.x),
+            y: float::higher(self.y, other.y),
+            z: float::higher(self.z, other.z),
+        }
     }
 
     // The component on an axis: x at 0, y at 1, z at 2 and beyond.

@@ -1,4 +1,3 @@
-pub mod Clear
 pub mod Passes
 pub mod Halves
 pub mod Filling

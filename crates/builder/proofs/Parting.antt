@@ -9,8 +9,8 @@ use mathlib.Core.List.{List}
 use lib.ListN.{length, getD, length-set}
 use lib.Ieee.{Float, lt}
 use Rattle.triangle.specs.Mesh.{centroidAt}
+use Rattle.triangle.proofs.Admitting.{one-more}
 use Rattle.builder.specs.Partition.{Parted, lower, moves, parted, parts, swapped}
-use Rattle.builder.proofs.Fills.{one-more}
 
 -- ---- an exchange
 pub length-swap : (xs : List ℕ) (a b : ℕ) → length (swapped xs a b) ≡ length xs

@@ -4,7 +4,7 @@ use Prim.Native.Nat.{ℕ, zero, suc, _+_, _*_, _/_, _%_, _≤_, _<_}
 use native.Mathlib.Omega.{arith}
 use native.Mathlib.Nat.{zero-add}
 use mathlib.Core.Logic.{_⊎_, ⊎-elim}
-use mathlib.Core.Bool.{Bool, true, false, true≢false}
+use mathlib.Core.Bool.{true, false, true≢false}
 use mathlib.Core.Option.{Option, none, some}
 use mathlib.Core.List.{List, [], _++_}
 use lib.ListN.{length, getD, take, drop}
@@ -12,17 +12,17 @@ use lib.Seq.{getD-take, length-take-le, take-at, drop-at}
 use lib.Dec.{T, eqb}
 use lib.Ieee.{Float, nan, neg, le, eq, ofBits}
 use borrow.Author.Tests.{eqb-true, ltb-false, not-false}
-use Rattle.float.proofs.Cases.{same?}
 use Rattle.aabb.specs.Bounds.{bounded, emptyBox, isEmpty, usable}
 use Rattle.aabb.specs.Vector.{allAtMost, allEqual, allWithin, within}
-use Rattle.triangle.specs.Mesh.{admittedTriangle, triangleAt}
+use Rattle.triangle.specs.declared.Unadmitted.{Unadmitted}
+use Rattle.triangle.specs.declared.Unadmitted.the-variants.{At, Nothing}
+use Rattle.triangle.specs.Mesh.{admittedTriangle, triangleAt, firstRefused}
+use Rattle.triangle.proofs.Admitting.{none-refused}
 use Rattle.builder.specs.declared.Built.the-variants.{Tree as Grew, Refused}
-use Rattle.builder.specs.declared.start.Found.{Found}
-use Rattle.builder.specs.declared.start.Found.the-variants.{At, Nothing}
 use Rattle.lent.specs.Permutation.{upTo}
 use Rattle.lent.specs.Ladder.{triangleCount}
 use Rattle.lent.proofs.Ladder.{all-passed}
-use Rattle.builder.specs.Build.{Outcome, built, finished, firstRefused, room, unadmitted}
+use Rattle.builder.specs.Build.{Outcome, built, finished, room, unadmitted}
 use Rattle.builder.specs.Layout.{boxesOf, linksOf}
 use Rattle.builder.specs.Runs.{Runs}
 use Rattle.builder.specs.Range.{boxFrom, nodeBox}
@@ -61,7 +61,7 @@ pub record Success (mesh : List Float) (index : List ℕ) (boxes : List Float) (
 no-refusal : {A : Type 0} (k a n l : ℕ) → Refused k a ≡ Grew n l → A
 no-refusal k a n l e = absurd (let z : _≡_ {A = ℕ} 0 1 = cc in omega arith)
 
-none-bad : (f : Found) → unadmitted f .fails ≡ false → f ≡ Nothing
+none-bad : (f : Unadmitted) → unadmitted f .fails ≡ false → f ≡ Nothing
 unfolding unadmitted
 none-bad (At i) e = absurd (true≢false e)
 none-bad Nothing e = refl
@@ -122,18 +122,6 @@ module _ (mesh : List Float) (index : List ℕ) (boxes : List Float) (links : Li
 up-none : upTo 0 ≡ []
 unfolding upTo
 up-none = refl
-
--- ---- every triangle is admitted
-refused-go : (m : List Float) (i k : ℕ) (t : Bool) → admittedTriangle (triangleAt m i) ≡ t → firstRefused m i (suc k) ≡ Nothing → (T t) × (firstRefused m (suc i) k ≡ Nothing)
-unfolding firstRefused
-refused-go m i k true p e = (tt, sym (rw (p, firstRefused)) ∙ e)
-refused-go m i k false p e = absurd (let s : firstRefused m i (suc k) ≡ At i = rw (p, firstRefused) in let z : _≡_ {A = ℕ} 0 1 = cc in omega arith)
-
-all-fine : (m : List Float) (k i j : ℕ) → firstRefused m i k ≡ Nothing → i ≤ j → j < i + k → T (admittedTriangle (triangleAt m j))
-all-fine m zero i j e p q = absurd (omega arith)
-all-fine m (suc k) i j e p q =
-    let s = refused-go m i k (admittedTriangle (triangleAt m i)) refl e in
-    ⊎-elim (λ h. subst⁻¹ (λ (z : ℕ). T (admittedTriangle (triangleAt m z))) h (s .0)) (λ h. all-fine m k (suc i) j (s .1) (omega arith) (omega arith)) (same? j i)
 
 empty-usable : (m : List Float) → T (usable (nodeBox m []))
 unfolding nodeBox boxFrom emptyBox usable bounded isEmpty allEqual allWithin within allAtMost eq le neg ofBits
@@ -196,7 +184,7 @@ module _ (mesh : List Float) (index : List ℕ) (boxes : List Float) (links : Li
       (placed t 0 1 boxes links (omega arith) box-fit link-fit)
 
   admits : (k : ℕ) → k < length mesh / 12 → T (admittedTriangle (triangleAt mesh k))
-  admits k h = all-fine mesh (length mesh / 12) 0 k (s .all-admitted) (omega arith) (omega arith)
+  admits k h = none-refused mesh (length mesh / 12) 0 k (s .all-admitted) (omega arith) (omega arith)
 
   all-admits : Admitted mesh ids
   all-admits v h = admits v (up-below (length mesh / 12) v h)

@@ -13,7 +13,7 @@ use Rattle.aabb.specs.declared.bounds.Aabb.{Aabb}
 use Rattle.triangle.specs.Mesh.{boundsAt, centroidAt, centroidOf, triangleAt}
 use Rattle.builder.specs.declared.bins.Bin.{Bin}
 use Rattle.builder.specs.Bins.{binOf, blank, filled, noBin, place, withBox}
-use Rattle.builder.specs.Lanes.{AllClear, lane, Lanes, Vacant}
+use Rattle.builder.specs.Lanes.{lane, Lanes, Vacant}
 use Rattle.builder.proofs.Filling.{fill-again, fill-end}
 use Rattle.builder.proofs.Lanes.{More, count-other, lane-apart, lane-more, lane-vacant, lanes-more, lanes-up}
 
@@ -30,21 +30,21 @@ pub ahead-end : (m : List Float) (lo sc : Vec3) (xs : List ℕ) (i : ℕ) (bs : 
 ahead-end m lo sc xs i bs cs h f a k = sym (fill-end m a (along a lo) (along a sc) (lane bs cs (a * 16) 16) xs i h) ∙ f a k
 
 -- ---- three puts, one after another
-module _ (bs bs₁ : List Float) (cs cs₁ : List ℕ) (x n : ℕ) (b : Aabb) (hx : x ≤ 15) (l : Lanes n bs cs) (mx : More bs bs₁ cs cs₁ x b) (c₁ : AllClear bs₁) where
+module _ (bs bs₁ : List Float) (cs cs₁ : List ℕ) (x n : ℕ) (b : Aabb) (hx : x ≤ 15) (l : Lanes n bs cs) (mx : More bs bs₁ cs cs₁ x b) where
   pub one-more : Lanes (n + 1) bs₁ cs₁
-  one-more = lanes-more bs bs₁ cs cs₁ x b mx (omega (arith, l .boxes-long)) (omega (arith, l .counts-long)) n (l .most x) (lanes-up n (n + 1) bs cs (omega arith) l) c₁
+  one-more = lanes-more bs bs₁ cs cs₁ x b mx (omega (arith, l .boxes-long)) (omega (arith, l .counts-long)) n (l .most x) (lanes-up n (n + 1) bs cs (omega arith) l)
 
-  module _ (bs₂ : List Float) (cs₂ : List ℕ) (y : ℕ) (hy : y ≤ 15) (my : More bs₁ bs₂ cs₁ cs₂ (16 + y) b) (c₂ : AllClear bs₂) where
+  module _ (bs₂ : List Float) (cs₂ : List ℕ) (y : ℕ) (hy : y ≤ 15) (my : More bs₁ bs₂ cs₁ cs₂ (16 + y) b) where
     pub two-more : Lanes (n + 1) bs₂ cs₂
     two-more =
         lanes-more bs₁ bs₂ cs₁ cs₂ (16 + y) b my (omega (arith, one-more .boxes-long)) (omega (arith, one-more .counts-long)) n
-        (omega (arith, count-other bs bs₁ cs cs₁ x b mx (16 + y) (λ e. omega arith), l .most (16 + y))) one-more c₂
+        (omega (arith, count-other bs bs₁ cs cs₁ x b mx (16 + y) (λ e. omega arith), l .most (16 + y))) one-more
 
     module _ (bs₃ : List Float) (cs₃ : List ℕ) (z : ℕ) (hz : z ≤ 15) (mz : More bs₂ bs₃ cs₂ cs₃ (32 + z) b) where
-      pub three-more : AllClear bs₃ → Lanes (n + 1) bs₃ cs₃
-      three-more c₃ =
+      pub three-more : Lanes (n + 1) bs₃ cs₃
+      three-more =
           lanes-more bs₂ bs₃ cs₂ cs₃ (32 + z) b mz (omega (arith, two-more .boxes-long)) (omega (arith, two-more .counts-long)) n
-          (omega (arith, count-other bs₁ bs₂ cs₁ cs₂ (16 + y) b my (32 + z) (λ e. omega arith), count-other bs bs₁ cs cs₁ x b mx (32 + z) (λ e. omega arith), l .most (32 + z))) two-more c₃
+          (omega (arith, count-other bs₁ bs₂ cs₁ cs₂ (16 + y) b my (32 + z) (λ e. omega arith), count-other bs bs₁ cs cs₁ x b mx (32 + z) (λ e. omega arith), l .most (32 + z))) two-more
 
       in-x : lane bs₃ cs₃ 0 16 ≡ set (lane bs cs 0 16) x (withBox (getD (lane bs cs 0 16) x blank) b)
       in-x =

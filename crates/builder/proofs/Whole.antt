@@ -10,16 +10,17 @@ use lib.Seq.{length-take-le, take-at, drop-at}
 use lib.Ieee.{Float}
 use borrow.Rule.Slice.PartMut.{postOf}
 use Rattle.float.specs.Number.{nought}
+use Rattle.triangle.specs.declared.Unadmitted.{Unadmitted}
+use Rattle.triangle.specs.declared.Unadmitted.the-variants.{At, Nothing}
+use Rattle.triangle.specs.Mesh.{firstRefused}
 use Rattle.builder.specs.declared.Built.{Built}
 use Rattle.builder.specs.declared.Built.the-variants.{Refused, Tree as Grew}
 use Rattle.builder.specs.declared.division.Made.{Made}
 use Rattle.builder.specs.declared.division.Made.the-variants.{Deep, Next}
-use Rattle.builder.specs.declared.start.Found.{Found}
-use Rattle.builder.specs.declared.start.Found.the-variants.{At, Nothing}
 use Rattle.lent.specs.Permutation.{upTo}
 use Rattle.lent.specs.Ladder.{triangleCount}
 use Rattle.lent.proofs.Ladder.{Ends, ends, goes, stops, serves, agree, not-below}
-use Rattle.builder.specs.Build.{Outcome, built, finished, firstRefused, outcome, room, unadmitted}
+use Rattle.builder.specs.Build.{Outcome, built, finished, outcome, room, unadmitted}
 use Rattle.tree.proofs.Counts.{odd-size}
 use Rattle.builder.specs.Layout.{Divided, boxesOf, linksOf}
 use Rattle.lent.specs.Limits.{deepest, most-triangles}
@@ -78,7 +79,7 @@ module _ (xs c : List ℕ) (n : ℕ) (h : n ≤ length xs) (e : length c ≡ len
       omega arith
 
 -- ---- the check of refusal 5, and where every check before it passed
-module _ {refused : ℕ → ℕ → Outcome} {served x : Outcome} {f : Found} where
+module _ {refused : ℕ → ℕ → Outcome} {served x : Outcome} {f : Unadmitted} where
   pub bad-at : {i : ℕ} → f ≡ At i → x ≡ refused 5 i → Ends (unadmitted f ∷ []) refused served x
   unfolding unadmitted
   bad-at p e = rw p (stops refl e)

@@ -7,9 +7,9 @@ use lib.ListN.{length, drop, replicate}
 use lib.Dec.{ltb}
 use lib.Ieee.{Float}
 use Rattle.float.specs.Number.{nought}
-use Rattle.triangle.specs.Mesh.{triangleAt, admittedTriangle}
-use Rattle.builder.specs.declared.start.Found.{Found}
-use Rattle.builder.specs.declared.start.Found.the-variants.{At, Nothing}
+use Rattle.triangle.specs.declared.Unadmitted.{Unadmitted}
+use Rattle.triangle.specs.declared.Unadmitted.the-variants.{At, Nothing}
+use Rattle.triangle.specs.Mesh.{firstRefused}
 use Rattle.builder.specs.declared.Built.{Built}
 use Rattle.builder.specs.declared.Built.the-variants.{Tree as Grew, Refused}
 use Rattle.lent.specs.Limits.{deepest}
@@ -34,11 +34,6 @@ unfoldable pub room : ℕ → ℕ
 room zero = 1
 room (suc n) = 2 * n + 1
 
--- the lowest of k triangle numbers from i on whose triangle isn't admitted
-unfoldable pub firstRefused : List Float → ℕ → ℕ → Found
-firstRefused mesh i zero = Nothing
-firstRefused mesh i (suc k) = elim (admittedTriangle (triangleAt mesh i)) [ true ↦ firstRefused mesh (suc i) k | false ↦ At i ]
-
 -- 6 sets every number of the lent index and node buffers to zero. Success answers the node count 2L-1 and the leaf count L, and writes the
 -- first n indices and the first 2L-1 nodes; the rest stays
 unfoldable pub finished : ℕ → Option Grown → List ℕ → List Float → List ℕ → Outcome
@@ -46,7 +41,7 @@ finished n none index boxes links = outcome (Refused 6 0) (replicate (length ind
 finished n (some g) index boxes links = outcome (Grew (1 + below (g .tree)) (leaves (g .tree))) (g .ids ++ drop n index) (boxesOf (g .tree) 0 1 boxes) (linksOf (g .tree) 0 1 links)
 
 -- 5, with the lowest number
-unfoldable pub unadmitted : Found → Check
+unfoldable pub unadmitted : Unadmitted → Check
 unadmitted (At i) = check true 5 i
 unadmitted Nothing = check false 5 0
 

@@ -1,27 +1,11 @@
--- What the inner functions promise of boxes that grow and of bins in flat lists: nothing that is public speaks of these. Definitions only.
+-- What the inner functions promise of bins in flat lists: nothing that is public speaks of these. Definitions only.
 use Prim.Native.Nat.{ℕ, zero, suc, _≤_, _<_}
 use mathlib.Core.Path.{_≡_}
 use mathlib.Core.List.{List, [], _∷_}
-use lib.Dec.{T}
 use lib.ListN.{length, getD}
 use lib.Ieee.{Float}
-use Rattle.float.specs.Number.{real}
-use Rattle.aabb.specs.declared.vector.Vec3.{Vec3}
-use Rattle.aabb.specs.declared.bounds.Aabb.{Aabb}
-use Rattle.aabb.specs.Vector.{numberAt}
-use Rattle.aabb.specs.Bounds.{boxAt, emptyBox}
+use Rattle.aabb.specs.Bounds.{Clear, boxAt, emptyBox}
 use Rattle.builder.specs.declared.bins.Bin.{Bin}
-
--- no number of a vector, or of a box, is a NaN: so it is with every box that has grown from the empty one
-abbrev pub ClearVector : Vec3 → Type 0
-ClearVector v = T (real (v .x)) × T (real (v .y)) × T (real (v .z))
-
-abbrev pub Clear : Aabb → Type 0
-Clear b = ClearVector (b .min) × ClearVector (b .max)
-
--- no number of a list is a NaN
-abbrev pub AllClear : List Float → Type 0
-AllClear numbers = (k : ℕ) → k < length numbers → T (real (numberAt numbers k))
 
 -- bin k of a list of boxes, six numbers each, and a list of counts
 unfoldable pub binAt : List Float → List ℕ → ℕ → Bin
@@ -32,11 +16,11 @@ unfoldable pub lane : List Float → List ℕ → ℕ → ℕ → List Bin
 lane boxes counts from zero = []
 lane boxes counts from (suc n) = binAt boxes counts from ∷ lane boxes counts (suc from) n
 
--- the bins of three axes, sixteen each, that count at most n and hold no NaN
+-- the bins of three axes, sixteen each, that count at most n and have no NaN in a box
 pub record Lanes (n : ℕ) (boxes : List Float) (counts : List ℕ) : Type 0 where
   pub boxes-long : length boxes ≡ 288
   pub counts-long : length counts ≡ 48
-  pub clear : AllClear boxes
+  pub clear : (k : ℕ) → k < 48 → Clear (boxAt boxes k)
   pub most : (k : ℕ) → getD counts k 0 ≤ n
 
 -- no triangle is in a bin yet

@@ -1,6 +1,6 @@
 // The sixteen bins of each axis, each with a count and a box: how they are filled, three axes in one pass.
+use crate::nodes;
 use crate::range;
-use crate::running;
 use aabb::Aabb;
 use aabb::Vec3;
 ghost use mathlib.Core.Path.{_≡_};
@@ -8,12 +8,12 @@ ghost use Prim.Native.Nat.{ℕ, _+_, _*_, _/_, _≤_, _<_};
 ghost use lib.ListN.{length, getD, set, replicate};
 ghost use Rattle.float.specs.Number.{infinity};
 ghost use Rattle.aabb.specs.Vector.{along};
-ghost use Rattle.aabb.specs.Bounds.{union, boxAt};
+ghost use Rattle.aabb.specs.Bounds.{Clear, union, boxAt};
 ghost use Rattle.lent.specs.Limits.{most-triangles};
 ghost use Rattle.lent.specs.Permutation.{occ};
 ghost use Rattle.builder.specs.Layout.{boxPut};
 ghost use Rattle.builder.specs.Bins.{whole, noBin, joinBins, binOf, filled};
-ghost use Rattle.builder.specs.Lanes.{Clear, AllClear, binAt, lane, Lanes, Vacant};
+ghost use Rattle.builder.specs.Lanes.{binAt, lane, Lanes, Vacant};
 
 pub struct Bin {
     pub count: u32,
@@ -24,7 +24,7 @@ impl Bin {
     pub fn none() -> Bin
         ensures { λ r. ⌜ (r ≡ noBin) × Clear (r .bounds) ⌝ }
     {
-        let bounds = running::nothing();
+        let bounds = Aabb::empty();
         Bin { count: 0, bounds }
     }
 
@@ -32,7 +32,7 @@ impl Bin {
         requires { ⌜ (self .count + other .count ≤ 16777216) × Clear (self .bounds) ⌝ }
         ensures { λ r. ⌜ (r ≡ joinBins self other) × Clear (r .bounds) ⌝ }
     {
-        let bounds = running::joined(self.bounds, other.bounds);
+        let bounds = self.bounds.joined(other.bounds);
         Bin {
             count: self.count + other.count,
             bounds,
@@ -42,12 +42,12 @@ impl Bin {
 
 // The first of some bins in a row: its number, as a whole number and as a float.
 pub struct Row {
-    pub first: u8,
+    pub first: usize,
     pub low: f64,
 }
 
 // Of twice `half` bins in a row that have the bin of x, the half that has it. `width` is `half` as a float.
-fn upper(row: Row, half: u8, width: f64, x: f64) -> Row
+fn upper(row: Row, half: usize, width: f64, x: f64) -> Row
     requires { ⌜ (row .low ≡ whole (row .first)) × (width ≡ whole half) × (0 < half) × (row .first + half ≤ 15) × (row .first ≤ binOf 15 x) × (binOf 15 x < row .first + half + half) ⌝ }
     ensures { λ r. ⌜ (r .low ≡ whole (r .first)) × (r .first ≤ row .first + half) × (r .first ≤ binOf 15 x) × (binOf 15 x < r .first + half) ⌝ }
 {
@@ -61,48 +61,32 @@ fn upper(row: Row, half: u8, width: f64, x: f64) -> Row
     row
 }
 
-// The greatest whole k in 0..15 with k <= x, by four halvings: the cast to `usize` of the Rust, and its `min`. Three of them are worked out in floats alone; the
-// cast of a whole number loses nothing.
-pub fn bin_of(x: f64) -> u32
+// The greatest whole k in 0..15 with k <= x, by four halvings: what the cast to `usize` of the Rust and its `min` come to, worked out.
+pub fn bin_of(x: f64) -> usize
     ensures { λ r. ⌜ (r ≡ binOf 15 x) × (r ≤ 15) ⌝ }
 {
     let sixteen = Row { first: 0, low: 0.0 };
     let eight = upper(sixteen, 8, 8.0, x);
     let four = upper(eight, 4, 4.0, x);
     let two = upper(four, 2, 2.0, x);
-    let k = two.low as u32;
-    if two.low + 1.0 <= x {
-        return k + 1;
-    }
-    k
+    let one = upper(two, 1, 1.0, x);
+    one.first
 }
 
 // Bin k of the lent bins, six numbers of box each and a count.
-pub fn bin_at(boxes: &[f64], counts: &[u32], k: usize) -> Bin
-    requires { ⌜ (k * 6 + 6 ≤ length (now boxes)) × (k < length (now counts)) ⌝ }
+pub fn bin_at(boxes: &[f64; 288], counts: &[u32; 48], k: usize) -> Bin
+    requires { ⌜ (k < 48) × (length (now counts) ≡ 48) ⌝ }
     ensures { λ r. ⌜ r ≡ binAt (now (boxes .entry)) (now (counts .entry)) k ⌝ }
 {
-    let at = k * 6;
-    let min = Vec3 {
-        x: boxes[at],
-        y: boxes[at + 1],
-        z: boxes[at + 2],
-    };
-    let top = at + 3;
-    let max = Vec3 {
-        x: boxes[top],
-        y: boxes[top + 1],
-        z: boxes[top + 2],
-    };
-    let bounds = Aabb { min, max };
+    let bounds = Aabb::read(boxes, k);
     Bin {
         count: counts[k],
         bounds,
     }
 }
 
-// Boxes that hold +inf everywhere become the empty box, each.
-pub fn vacate(boxes: &mut [f64])
+// Boxes that hold +inf everywhere become the empty box, each: only half of the numbers is written again.
+pub fn vacate(boxes: &mut [f64; 288])
     requires { ⌜ now boxes ≡ replicate 288 infinity ⌝ }
     ensures { λ _. ⌜ Vacant (now (boxes .exit)) (replicate 48 0) ⌝ }
 {
@@ -117,19 +101,13 @@ pub fn vacate(boxes: &mut [f64])
 }
 
 // One triangle more in bin k, whose box is given.
-pub fn put(boxes: &mut [f64], counts: &mut [u32], k: usize, b: Aabb)
+pub fn put(boxes: &mut [f64; 288], counts: &mut [u32; 48], k: usize, b: Aabb)
     requires { ⌜ (k < 48) × Lanes most-triangles (now boxes) (now counts) ⌝ }
     ensures { λ _. ⌜ now (boxes .exit) ≡ boxPut (now (boxes .entry)) k (union (boxAt (now (boxes .entry)) k) b) ⌝ }
     ensures { λ _. ⌜ now (counts .exit) ≡ set (now (counts .entry)) k (getD (now (counts .entry)) k 0 + 1) ⌝ }
-    ensures { λ _. ⌜ AllClear (now (boxes .exit)) ⌝ }
 {
-    let at = k * 6;
-    boxes[at] = float::lower(boxes[at], b.min.x);
-    boxes[at + 1] = float::lower(boxes[at + 1], b.min.y);
-    boxes[at + 2] = float::lower(boxes[at + 2], b.min.z);
-    boxes[at + 3] = float::higher(boxes[at + 3], b.max.x);
-    boxes[at + 4] = float::higher(boxes[at + 4], b.max.y);
-    boxes[at + 5] = float::higher(boxes[at + 5], b.max.z);
+    let run = Aabb::read(boxes, k);
+    nodes::put_box(boxes, k, run.joined(b));
     counts[k] += 1;
 }
 
@@ -139,8 +117,8 @@ pub fn fill(
     index: &[u32],
     min: Vec3,
     scale: Vec3,
-    boxes: &mut [f64],
-    counts: &mut [u32],
+    boxes: &mut [f64; 288],
+    counts: &mut [u32; 48],
 )
     requires { ⌜ ((v : ℕ) → 0 < occ v (now index) → v < length (now triangles) / 12) ⌝ }
     requires { ⌜ (length (now index) ≤ most-triangles) × Vacant (now boxes) (now counts) ⌝ }
@@ -152,9 +130,9 @@ pub fn fill(
         let t = range::corners(triangles, index[i]);
         let c = t.centroid();
         let b = range::box_of(t);
-        let x = bin_of((c.x - min.x) * scale.x) as usize;
-        let y = bin_of((c.y - min.y) * scale.y) as usize;
-        let z = bin_of((c.z - min.z) * scale.z) as usize;
+        let x = bin_of((c.x - min.x) * scale.x);
+        let y = bin_of((c.y - min.y) * scale.y);
+        let z = bin_of((c.z - min.z) * scale.z);
         put(boxes, counts, x, b);
         put(boxes, counts, 16 + y, b);
         put(boxes, counts, 32 + z, b);

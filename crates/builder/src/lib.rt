@@ -1,6 +1,5 @@
 // The builder: a port of builder.rs. Triangles are put into a binary tree of boxes, node for node as the Rust does it.
 // Each `Vec` of the Rust is a buffer that the caller lends; `find_best_split` is an inner part (split.rt) and not public.
-mod running; // running.rt: boxes that grow from the empty one
 mod range; // range.rt: what is asked of a range of triangle numbers
 mod bins; // bins.rt: the sixteen bins of each axis
 mod split; // split.rt: the choice of a split
@@ -11,7 +10,7 @@ mod division; // division.rt: the division of a range, which calls itself
 mod start; // start.rt: what is tested and written before and after the division
 
 use division::Made;
-use start::Found;
+use triangle::Unadmitted;
 ghost use mathlib.Core.Path.{_≡_};
 ghost use Prim.Native.Nat.{_+_, _*_, _/_, _≤_, _-_};
 ghost use lib.ListN.{length};
@@ -58,8 +57,8 @@ pub fn build(triangles: &[f64], index: &mut [u32], boxes: &mut [f64], links: &mu
             at: room,
         };
     }
-    let bad = start::first_refused(triangles, n);
-    if let Found::At(i) = bad {
+    let bad = triangle::first_refused(triangles, n);
+    if let Unadmitted::At(i) = bad {
         return Built::Refused { number: 5, at: i };
     }
     make(triangles, index, boxes, links, n)

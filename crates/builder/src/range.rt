@@ -1,5 +1,4 @@
 // What is asked of a range of triangle numbers: the boxes of its triangles and of their centroids, in one pass.
-use crate::running;
 use aabb::Aabb;
 use aabb::Vec3;
 use triangle::Corners;
@@ -49,7 +48,7 @@ pub fn corners(triangles: &[f64], i: u32) -> Corners
 pub fn box_of(t: Corners) -> Aabb
     ensures { λ r. ⌜ r ≡ ofThree (t .v0) (t .v1) (t .v2) ⌝ }
 {
-    running::around_three(t.v0, t.v1, t.v2)
+    Aabb::empty().widened(t.v0).widened(t.v1).widened(t.v2)
 }
 
 // Both boxes of a range of triangles that are there.
@@ -58,13 +57,13 @@ pub fn around(triangles: &[f64], index: &[u32]) -> Hull
     requires { ⌜ length (now index) ≤ most-triangles ⌝ }
     ensures { λ r. ⌜ (r .bounds ≡ nodeBox (now (triangles .entry)) (now (index .entry))) × (r .centroids ≡ centroidBox (now (triangles .entry)) (now (index .entry))) ⌝ }
 {
-    let mut bounds = running::nothing();
-    let mut centroids = running::nothing();
+    let mut bounds = Aabb::empty();
+    let mut centroids = Aabb::empty();
     let mut i: usize = 0;
     while i < index.len() {
         let t = corners(triangles, index[i]);
-        bounds = running::joined(bounds, box_of(t));
-        centroids = running::grown(centroids, t.centroid());
+        bounds = bounds.joined(box_of(t));
+        centroids = centroids.widened(t.centroid());
         i += 1;
     }
     Hull { bounds, centroids }

@@ -71,8 +71,8 @@ pub fn better(
 
 // The fifteen boundaries of an axis, from left to right; what is to the right of each is worked out before, from the right end.
 pub fn sweep(
-    boxes: &[f64],
-    counts: &[u32],
+    boxes: &[f64; 288],
+    counts: &[u32; 48],
     best: Best,
     axis: usize,
     min: f64,
@@ -116,8 +116,8 @@ pub fn sweep(
 
 // An axis whose bins are filled.
 pub fn try_axis(
-    boxes: &[f64],
-    counts: &[u32],
+    boxes: &[f64; 288],
+    counts: &[u32; 48],
     axis: usize,
     centroids: Aabb,
     parent: f64,

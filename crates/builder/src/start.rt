@@ -5,12 +5,7 @@ ghost use lib.ListN.{length, replicate};
 ghost use Rattle.float.specs.Number.{nought};
 ghost use Rattle.lent.specs.Limits.{most-triangles};
 ghost use Rattle.lent.specs.Permutation.{upTo};
-ghost use Rattle.builder.specs.Build.{room, firstRefused};
-
-pub enum Found {
-    At(usize),
-    Nothing,
-}
+ghost use Rattle.builder.specs.Build.{room};
 
 // R, the node room that n triangles ask: 2n-1, or 1 for none.
 pub fn room(n: usize) -> usize
@@ -21,21 +16,6 @@ pub fn room(n: usize) -> usize
         return 1;
     }
     2 * n - 1
-}
-
-// The lowest number of a triangle that isn't admitted.
-pub fn first_refused(triangles: &[f64], n: usize) -> Found
-    ensures { λ r. ⌜ r ≡ firstRefused (now (triangles .entry)) 0 n ⌝ }
-{
-    let mut i: usize = 0;
-    while i < n {
-        if triangle::admitted_at(triangles, i) {
-            i += 1;
-        } else {
-            return Found::At(i);
-        }
-    }
-    Found::Nothing
 }
 
 // 0, 1, .., n-1

@@ -1,4 +1,4 @@
--- Demand 3 holds of every accepted tree, and so of every tree that is built. Assumes nothing.
+-- Demand 3 holds of every tree that a walk can take, and so of every tree that is built. Assumes nothing.
 use mathlib.Core.Path.{_≡_, refl, sym, ap, _∙_}
 use Prim.Native.Nat.{ℕ, _*_}
 use native.Mathlib.Omega.{arith}
@@ -11,23 +11,25 @@ use Rattle.aabb.specs.Vector.{admittedRay}
 use Rattle.builder.specs.declared.Built.the-variants.{Tree as Grew}
 use Rattle.builder.specs.Build.{Outcome, built}
 use Rattle.builder.proofs.Successes.{success, accepted as accepted-lists}
-use Rattle.walk.specs.Lent.{Lent, lent, triangleCount}
+use Rattle.tree.specs.Lent.{Lent, lent}
+use Rattle.lent.specs.Ladder.{triangleCount}
 use Rattle.walk.specs.Answer.{Told}
 use Rattle.walk.specs.Walk.{over}
-use Rattle.walk.specs.Tree.{Tree, size, leaves, Accepted}
-use Rattle.walk.proofs.Accepting.{short, odd-size, accepted, few-tests}
-use Rattle.walk.proofs.NearestHit.{walk-nearest, walk-clear}
-use Rattle.walk.proofs.SameHit.{same-leaves-hit, reordered-hit}
+use Rattle.tree.specs.Tree.{Tree}
+use Rattle.tree.proofs.Counts.{odd-size}
+use Rattle.tree.specs.Accepted.{Walkable}
+use Rattle.demands.proofs.Walking.{short, walked, few-tests}
+use Rattle.demands.proofs.NearestHit.{walk-nearest, walk-clear}
+use Rattle.demands.proofs.SameHit.{same-leaves-hit, reordered-hit}
 use Rattle.demands.specs.Handed.{handedAs, handed}
 use Rattle.demands.specs.Demand.{Demand3, Signed}
-use Rattle.demands.proofs.Bridge.{asTree, size-as, leaves-as, accepted-as}
 
-module _ (s : Lent) (t : Tree) (r : Ray) (A : Accepted s t) (R : T (admittedRay r)) where
-  -- every tree that lists hold and a walk accepts, wherever it was built
+module _ (s : Lent) (t : Tree) (r : Ray) (A : Walkable s t) (R : T (admittedRay r)) where
+  -- every tree that lists hold and a walk can take, wherever it was built
   pub demand-3 : Demand3 s t r
   unfolding over
   demand-3 =
-      let e = accepted s t r A R in
+      let e = walked s t r A R in
       let boxes = ap (λ (a : Told). a .boxes) e in
       let tests = ap (λ (a : Told). a .triangles) e in
       record {
@@ -41,7 +43,7 @@ module _ (s : Lent) (t : Tree) (r : Ray) (A : Accepted s t) (R : T (admittedRay 
       }
 
 -- ---- a built tree
-module _ (mesh : List Float) (index : List ℕ) (boxes : List Float) (links : List ℕ) (nodes leaf-count : ℕ) (r : Ray) where
+module _ (mesh : List Float) (index : List ℕ) (boxes : List Float) (links : List ℕ) (nodes leaf-count : ℕ) where
   abbrev left : Outcome
   left = built mesh index boxes links
 
@@ -52,25 +54,24 @@ module _ (mesh : List Float) (index : List ℕ) (boxes : List Float) (links : Li
   unfolding handed handedAs
   handed-is e = rw e
 
-  accepted-built : (e : left .answer ≡ Grew nodes leaf-count) → T (admittedRay r) → Signed given nodes leaf-count r
-  accepted-built e R =
+  signed : left .answer ≡ Grew nodes leaf-count → Signed given nodes leaf-count
+  signed e =
       let w = success mesh index boxes links nodes leaf-count left e refl in
       let t = w .grown .tree in
       let A = accepted-lists mesh index boxes links nodes leaf-count left w in
-      let size-is : size (asTree t) ≡ nodes = omega (arith, size-as t, w .nodes-are) in
-      let B = accepted-as mesh _ _ _ t (A .walkable) in
-      let leaves-is : leaves (asTree t) ≡ leaf-count = leaves-as t ∙ sym (w .leaves-are) in
+      let W = A .walkable in
       record {
-        tree = asTree t;
-        held = B .holds;
-        nodes-are = size-is;
-        leaves-are = leaves-is;
-        odd = omega (arith, odd-size (asTree t), size-is, leaves-is);
-        answer = demand-3 given (asTree t) r B R;
-        settled = λ s′ t′ m C L. same-leaves-hit given s′ (asTree t) t′ r m B C R L;
-        any-order = λ order O. reordered-hit given order (asTree t) r B O R;
+        tree = t;
+        accepted = A;
+        nodes-are = omega (arith, A .all-nodes, w .nodes-are);
+        size-is = sym (w .nodes-are);
+        leaves-are = sym (w .leaves-are);
+        odd = omega (arith, odd-size t, w .nodes-are, w .leaves-are);
+        answer = λ r R. demand-3 given t r W R;
+        settled = λ r R s′ t′ m C L. same-leaves-hit given s′ t t′ r m W C R L;
+        any-order = λ r R order O. reordered-hit given order t r W O R;
       }
 
-  -- Demand 3. For an unchanged built tree over its own triangles and an admitted ray.
-  pub built-walk : left .answer ≡ Grew nodes leaf-count → T (admittedRay r) → Signed (handed mesh left) nodes leaf-count r
-  built-walk e R = rw (handed-is e) (accepted-built e R)
+  -- Demand 3: of every built tree, unchanged, over its own triangles
+  pub built-walk : left .answer ≡ Grew nodes leaf-count → Signed (handed mesh left) nodes leaf-count
+  built-walk e = rw (handed-is e) (signed e)

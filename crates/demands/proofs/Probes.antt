@@ -10,8 +10,8 @@ use Rattle.lent.specs.Flat.{put}
 use Rattle.float.specs.Pick.{lesser, greater}
 use Rattle.aabb.specs.Vector.{plus, minus as aabb-minus, negated, scaled, divided, least, greatest, dot, minor, cross, along, within, allWithin, allAtMost, allEqual, vectorAt, pointAt, admittedRay}
 use Rattle.aabb.specs.Bounds.{emptyBox, grown, union, ofThree, extent, areaOf, area, bounded, isEmpty, usable, boxAt}
-use Rattle.aabb.specs.Slab.{reach, first, second, parallel, unlessLater, clipped, narrowed, andThen, ahead, onAxis, slabFrom, slab}
-use Rattle.triangle.specs.Mesh.{triangleAt, boundsOf, centroidOf, admittedTriangle, boundsAt, centroidAt}
+use Rattle.aabb.specs.Slab.{sighted, aimed, sightOn, reach, first, second, parallel, unlessLater, clipped, narrowed, andThen, ahead, onAxis, throughFrom, through, slab}
+use Rattle.triangle.specs.Mesh.{triangleAt, boundsOf, centroidOf, admittedTriangle, boundsAt, centroidAt, firstRefused}
 use Rattle.triangle.specs.Meeting.{edge1, edge2, pvec, det, invDet, tvec, qvec, uOf, vOf, tOf, judged, distance, faces, hitAt}
 use Rattle.builder.specs.Range.{boxFrom, nodeBox, centroidsFrom, centroidBox}
 use Rattle.builder.specs.Bins.{noBin, withBox, joinBins, binOf, place, filled, suffixOf}
@@ -21,9 +21,11 @@ use Rattle.builder.specs.Fallback.{underAt, ahead as builder-ahead, insert, sor
 use Rattle.builder.specs.Tree.{joined, decision, leafOf, grow}
 use Rattle.builder.specs.Layout.{boxPut, linkPut, boxesOf, linksOf}
 use Rattle.lent.specs.Permutation.{upTo}
-use Rattle.builder.specs.Build.{room, firstRefused, unadmitted, finished, built}
-use Rattle.walk.specs.Lent.{triangleCount, nodeAt, sound, leftOf, rightOf}
-use Rattle.walk.specs.Walk.{boxed, replaces, nearer, after, tested, scan, openLeaf, openInternal, opened, judged as scene-judged, visit, hitOf, over, run, misfit, walk}
+use Rattle.builder.specs.Build.{room, unadmitted, finished, built}
+use Rattle.lent.specs.Ladder.{triangleCount}
+use Rattle.tree.specs.Node.{linked, nodeAt, sound, leftOf, rightOf}
+use Rattle.walk.specs.Walk.{boxed, replaces, nearer, after, tested, scan, openLeaf, openInternal, opened, judged as scene-judged, visit, hitOf, over, run, walk}
+use Rattle.tree.specs.Node.{misfit}
 use Rattle.demands.specs.Handed.{handedAs, handed}
 use Rattle.demands.specs.Probes.{Probe, slabbed, split, grown as built-row, walked, Claim, All, builtWhole, probes}
 use Rattle.demands.proofs.Same.{sameSpan, span-is, sameSplit, split-is, sameOutcome, outcome-is, sameTold, told-is}
@@ -50,7 +52,7 @@ claims (p ∷ ps) h = (claim p (and-l (holds p) (allHold ps) h), claims ps (and-
 
 -- the test, computed over the whole table
 table : T (allHold probes)
-unfolding probes handedAs handed builtWhole lesser greater plus aabb-minus negated scaled divided least greatest dot minor cross along within allWithin allAtMost allEqual vectorAt pointAt admittedRay emptyBox grown union ofThree extent areaOf area bounded isEmpty usable boxAt reach first second parallel unlessLater clipped narrowed andThen ahead onAxis slabFrom slab triangleAt boundsOf centroidOf admittedTriangle boundsAt centroidAt edge1 edge2 pvec det invDet tvec qvec uOf vOf tOf judged distance faces hitAt boxFrom nodeBox centroidsFrom centroidBox noBin withBox joinBins binOf place filled suffixOf weight costOf betterOf sweepFrom tryAxis leafCost chosen bestSplit moves lower parted underAt builder-ahead insert sorted ordered settled separated joined decision leafOf grow put boxPut linkPut boxesOf linksOf upTo room firstRefused unadmitted finished built nodeAt sound leftOf rightOf boxed replaces nearer after tested scan openLeaf openInternal opened scene-judged visit hitOf over run misfit walk unless firstFailed answered isNan lt le eq add sub mul div neg ofBits ofInt sum round units odd size span climb trailingZeros
+unfolding probes handedAs handed builtWhole lesser greater plus aabb-minus negated scaled divided least greatest dot minor cross along within allWithin allAtMost allEqual vectorAt pointAt admittedRay emptyBox grown union ofThree extent areaOf area bounded isEmpty usable boxAt sighted aimed sightOn reach first second parallel unlessLater clipped narrowed andThen ahead onAxis throughFrom through slab triangleAt boundsOf centroidOf admittedTriangle boundsAt centroidAt edge1 edge2 pvec det invDet tvec qvec uOf vOf tOf judged distance faces hitAt boxFrom nodeBox centroidsFrom centroidBox noBin withBox joinBins binOf place filled suffixOf weight costOf betterOf sweepFrom tryAxis leafCost chosen bestSplit moves lower parted underAt builder-ahead insert sorted ordered settled separated joined decision leafOf grow put boxPut linkPut boxesOf linksOf upTo room firstRefused unadmitted finished built linked nodeAt sound leftOf rightOf boxed replaces nearer after tested scan openLeaf openInternal opened scene-judged visit hitOf over run misfit walk unless firstFailed answered isNan lt le eq add sub mul div neg ofBits ofInt sum round units odd size span climb trailingZeros
 table = tt
 
 -- P1 to P12

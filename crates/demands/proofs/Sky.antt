@@ -2,7 +2,7 @@
 use mathlib.Core.Path.{_≡_, refl, ap, _∙_}
 use mathlib.Core.Logic.{inl, inr}
 use mathlib.Core.List.{List, _++_}
-use Prim.Native.Nat.{ℕ, _*_, _/_, _%_, _≤_, _<_}
+use Prim.Native.Nat.{ℕ, _*_, _%_, _≤_}
 use native.Mathlib.Omega.{arith}
 use lib.Dec.{T}
 use lib.ListN.{length, drop}
@@ -13,23 +13,21 @@ use Rattle.aabb.specs.Vector.{admittedRay, rayAt}
 use Rattle.triangle.specs.declared.Hit.{Hit}
 use Rattle.triangle.specs.declared.Found.{Found}
 use Rattle.triangle.specs.declared.Found.the-variants.{At, Nothing}
-use Rattle.builder.specs.declared.Built.{Built}
-use Rattle.builder.specs.declared.Built.the-variants.{Tree as Grew, Refused}
-use Rattle.builder.specs.Build.{Outcome, built}
-use Rattle.builder.proofs.Successes.{success, accepted as accepted-lists}
+use Rattle.builder.specs.declared.Built.the-variants.{Tree as Grew}
+use Rattle.builder.specs.Build.{built}
 use Rattle.sky.specs.declared.Filled.the-variants.{Places}
 use Rattle.sky.specs.declared.Place.{Place}
-use Rattle.walk.specs.Lent.{Lent, most-triangles, triangleCount}
+use Rattle.tree.specs.Lent.{Lent}
 use Rattle.lent.specs.Ladder.{none}
 use Rattle.lent.specs.Flat.{records}
 use Rattle.walk.specs.Answer.{Told}
 use Rattle.walk.specs.Walk.{walk}
-use Rattle.walk.specs.Tree.{Tree}
+use Rattle.tree.specs.Tree.{Tree}
 use Rattle.sky.specs.Sky.{rayCount, placed, placeOf, timesFor, toldFor, placeAt, Filling, filling, sky}
 use Rattle.sky.proofs.Room.{place-k, filled-is, served}
-use Rattle.demands.specs.Handed.{handedAs, handed}
+use Rattle.demands.specs.Handed.{handed}
 use Rattle.demands.specs.Demand.{Demand3}
-use Rattle.demands.specs.Sky.{Demand3At, SignedPlace, SignedSky}
+use Rattle.demands.specs.Sky.{Demand3At, SignedSky}
 use Rattle.demands.proofs.Demand.{built-walk}
 
 -- ---- what a place tells of a walk that is served
@@ -76,14 +74,6 @@ module _ (s : Lent) (t : Tree) (r : Ray) (D : Demand3 s t r) where
   demand-3-at p e = rw e (by-hit (walk s r .hit) refl)
 
 -- ---- a built tree
-handed-mesh : (mesh : List Float) (o : Outcome) → handed mesh o .triangles ≡ mesh
-unfolding handed handedAs
-handed-mesh mesh o = go (o .answer)
-  where
-    go : (b : Built) → handedAs mesh o b .triangles ≡ mesh
-    go (Grew nodes leaves) = refl
-    go (Refused number at) = refl
-
 module _ (mesh : List Float) (index : List ℕ) (boxes : List Float) (links : List ℕ) (nodes leaf-count : ℕ) (rays times : List Float) (told : List ℕ) where
   abbrev s : Lent
   s = handed mesh (built mesh index boxes links)
@@ -95,14 +85,12 @@ module _ (mesh : List Float) (index : List ℕ) (boxes : List Float) (links : Li
   pub built-sky : built mesh index boxes links .answer ≡ Grew nodes leaf-count → length rays % 6 ≡ 0 → rayCount rays ≤ length times → rayCount rays * 4 ≤ length told
       → SignedSky s nodes leaf-count rays (sky s rays times told)
   built-sky e sixes timed roomy =
-      let A = accepted-lists mesh index boxes links nodes leaf-count (built mesh index boxes links) (success mesh index boxes links nodes leaf-count (built mesh index boxes links) e refl) in
-      let m = handed-mesh mesh (built mesh index boxes links) in
-      let whole : length (s .triangles) % 12 ≡ 0 = ap (λ (l : List Float). length l % 12) m ∙ A .walkable .whole in
-      let few : triangleCount (s .triangles) ≤ most-triangles = omega (arith, ap (λ (l : List Float). length l / 12) m, A .walkable .few) in
-      let is : full ≡ sky s rays times told = filled-is s rays (rayCount rays) times _ told _ refl refl ∙ served s rays times told whole few sixes timed roomy in
-      rw (← is) (record { served = refl; each = place })
-    where
-      place : (k : ℕ) → k < rayCount rays → T (admittedRay (rayAt rays k)) → SignedPlace s nodes leaf-count (rayAt rays k) (placeAt (full .times) (full .told) k)
-      place k h R =
-          let w = built-walk mesh index boxes links nodes leaf-count (rayAt rays k) e R in
-          record { walked = w; told = demand-3-at s (w .tree) (rayAt rays k) (w .answer) (placeAt (full .times) (full .told) k) (place-k s rays times told (rayCount rays) k h) }
+      let w = built-walk mesh index boxes links nodes leaf-count e in
+      let W = w .accepted .walkable in
+      let is : full ≡ sky s rays times told = filled-is s rays (rayCount rays) times _ told _ refl refl ∙ served s rays times told (W .whole) (W .few) sixes timed roomy in
+      rw (← is)
+      (record {
+        signed = w;
+        served = refl;
+        each = λ k h R. demand-3-at s (w .tree) (rayAt rays k) (w .answer (rayAt rays k) R) (placeAt (full .times) (full .told) k) (place-k s rays times told (rayCount rays) k h);
+      })

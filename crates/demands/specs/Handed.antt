@@ -6,7 +6,8 @@ use lib.Ieee.{Float}
 use Rattle.builder.specs.declared.Built.{Built}
 use Rattle.builder.specs.declared.Built.the-variants.{Tree, Refused}
 use Rattle.builder.specs.Build.{Outcome}
-use Rattle.walk.specs.Lent.{Lent, lent, triangleCount}
+use Rattle.tree.specs.Lent.{Lent, lent}
+use Rattle.lent.specs.Ladder.{triangleCount}
 
 -- a refused build hands over nothing
 unfoldable pub handedAs : List Float → Outcome → Built → Lent

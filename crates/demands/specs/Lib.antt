@@ -1,4 +1,6 @@
 pub mod Handed
 pub mod Probes
+pub mod Reached
+pub mod NearestHit
 pub mod Demand
 pub mod Sky

@@ -21,7 +21,7 @@ use Rattle.builder.specs.declared.split.SplitDecision.the-variants.{Split}
 use Rattle.builder.specs.Tree.{decision}
 use Rattle.lent.specs.Permutation.{upTo}
 use Rattle.builder.specs.Build.{Outcome, outcome, room, built}
-use Rattle.walk.specs.Lent.{triangleCount}
+use Rattle.lent.specs.Ladder.{triangleCount}
 use Rattle.lent.specs.Ladder.{none}
 use Rattle.walk.specs.Answer.{Told}
 use Rattle.walk.specs.Walk.{walk}

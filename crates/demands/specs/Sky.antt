@@ -11,9 +11,12 @@ use Rattle.aabb.specs.Vector.{admittedRay, rayAt}
 use Rattle.triangle.specs.declared.Hit.{Hit}
 use Rattle.sky.specs.declared.Place.{Place}
 use Rattle.sky.specs.declared.Filled.the-variants.{Places}
-use Rattle.walk.specs.Lent.{Lent, triangleCount}
-use Rattle.walk.specs.Tree.{Tree, leaves, entered, reached}
-use Rattle.walk.specs.NearestHit.{All, NearestAt, NothingAt}
+use Rattle.tree.specs.Lent.{Lent}
+use Rattle.lent.specs.Ladder.{triangleCount}
+use Rattle.tree.specs.Tree.{Tree, leaves}
+use Rattle.demands.specs.Reached.{entered, reached}
+use Rattle.lent.specs.Members.{Every}
+use Rattle.demands.specs.NearestHit.{NearestAt, NothingAt}
 use Rattle.sky.specs.Sky.{rayCount, placeAt, Filling}
 use Rattle.demands.specs.Demand.{Signed}
 
@@ -30,15 +33,12 @@ pub record Demand3At (s : Lent) (t : Tree) (r : Ray) (p : Place) : Type 0 where
   pub box-tests : p .boxes ≡ 1 + 2 * entered r t
   pub triangle-tests : p .triangles ≡ length (reached r t)
   pub most-boxes : p .boxes + 1 ≤ 2 * leaves t
-  pub most-triangles : p .triangles ≤ triangleCount (s .triangles)
+  pub most-triangles : p .triangles ≤ triangleCount (s .mesh .triangles)
   pub hit : p .outcome ≡ 100 → TellsNearest s t r p
-  pub no-hit : p .outcome ≡ 0 → All (NothingAt s r) (reached r t)
+  pub no-hit : p .outcome ≡ 0 → Every (NothingAt s r) (reached r t)
 
 -- ---- what is signed
-pub record SignedPlace (s : Lent) (nodes leaf-count : ℕ) (r : Ray) (p : Place) : Type 0 where
-  pub walked : Signed s nodes leaf-count r
-  pub told : Demand3At s (walked .tree) r p
-
 pub record SignedSky (s : Lent) (nodes leaf-count : ℕ) (rays : List Float) (o : Filling) : Type 0 where
+  pub signed : Signed s nodes leaf-count
   pub served : o .answer ≡ Places
-  pub each : (k : ℕ) → k < rayCount rays → T (admittedRay (rayAt rays k)) → SignedPlace s nodes leaf-count (rayAt rays k) (placeAt (o .times) (o .told) k)
+  pub each : (k : ℕ) → k < rayCount rays → T (admittedRay (rayAt rays k)) → Demand3At s (signed .tree) (rayAt rays k) (placeAt (o .times) (o .told) k)

@@ -47,7 +47,7 @@ magnitude-round f s a c =
     let n = a * 2 ^ low f in
     ap magnitude (round-is f s a c) ∙ magnitude-units f s (kept (prec f) n c) (drop (prec f) n c) ∙ sym (round-is f false a c)
 
-round-most : (f : Format) (s : Bool) (a c b d : ℕ) → 0 < c → 0 < d → a * d ≤ b * c → T (le (magnitude (round f s a c)) (round f false b d))
+pub round-most : (f : Format) (s : Bool) (a c b d : ℕ) → 0 < c → 0 < d → a * d ≤ b * c → T (le (magnitude (round f s a c)) (round f false b d))
 round-most f s a c b d C D h = rw (magnitude-round f s a c) (round-mono f a c b d C D h)
 
 split-le : (s : Bool) (a g l w : ℕ) → Split s a g l → g ≤ w → l ≤ w → a ≤ w
@@ -122,17 +122,18 @@ mul-most i j k c (fin s m e) (fin t n d) p q =
     rw (← c) (round-most binary64 (unlike s t) (m * up e * (n * up d)) (down e * down d) (2 ^ i * 2 ^ j) 1 (mul-pos (down-pos e) (down-pos d)) (zero-lt-suc 0)
     (area (m * up e) (down e) (n * up d) (down d) (2 ^ i) (2 ^ j) (size-le m e i p) (size-le n d j q)))
 
+-- ---- the quotient, by what is not zero
+pub div-is : (s : Bool) (m : ℕ) (e : ℤ) (t : Bool) (n : ℕ) (d : ℤ) → 0 < n * up d → div binary64 (fin s m e) (fin t n d) ≡ round binary64 (unlike s t) (m * up e * down d) (n * up d * down e)
+unfolding div
+div-is s m e t n d h = go (eqb n 0) (eqb→eq n 0)
+  where
+    go : (b : Bool) → (T b → n ≡ 0) → cond b (cond (eqb m 0) nan (inf (unlike s t))) (round binary64 (unlike s t) (m * up e * down d) (n * up d * down e)) ≡ round binary64 (unlike s t) (m * up e * down d) (n * up d * down e)
+    go true z = absurd (omega (arith, ap (λ (k : ℕ). k * up d) (z tt)))
+    go false z = refl
+
 -- ---- the inverse of d, for `trillionth` ≤ |d|
 abbrev least : Float
 least = fin false 4951760157141521 (negsuc 91)
-
-inverse-is : (t : Bool) (n : ℕ) (d : ℤ) → 0 < n * up d → div binary64 (fin false 1 (pos 0)) (fin t n d) ≡ round binary64 (unlike false t) (1 * down d) (n * up d * 1)
-unfolding div
-inverse-is t n d h = go (eqb n 0) (eqb→eq n 0)
-  where
-    go : (b : Bool) → (T b → n ≡ 0) → cond b (inf (unlike false t)) (round binary64 (unlike false t) (1 * down d) (n * up d * 1)) ≡ round binary64 (unlike false t) (1 * down d) (n * up d * 1)
-    go true z = absurd (omega (arith, ap (λ (k : ℕ). k * up d) (z tt)))
-    go false z = refl
 
 not-less : (n : ℕ) (d : ℤ) → T (le least (fin false n d)) → num least * down d ≤ n * up d * den least
 not-less n d h = omega (arith, le→under least (fin false n d) tt tt h)
@@ -148,18 +149,10 @@ inverse-most′ : (d : Float) → T (finite d) → T (le least (magnitude d)) �
 inverse-most′ nan p h = absurd p
 inverse-most′ (inf s) p h = absurd p
 inverse-most′ (fin t n d) p h =
-    rw (inverse-is t n d (above-nought n d h))
+    rw (div-is false 1 (pos 0) t n d (above-nought n d h))
     (le-trans (magnitude (round binary64 (unlike false t) (1 * down d) (n * up d * 1))) (round binary64 false (den least) (num least)) (power 40)
     (round-most binary64 (unlike false t) (1 * down d) (n * up d * 1) (den least) (num least) (omega (arith, above-nought n d h)) (zero-lt-suc 4951760157141520) (omega (arith, not-less n d h)))
     inverse-end)
 
 pub inverse-most : (d : Float) → T (finite d) → T (le trillionth (magnitude d)) → AtMost 40 (div binary64 one d)
 inverse-most d p h = rw one-is (inverse-most′ d p (rw trillionth-is at h))
-
--- ---- the distance to a plane is finite
-pub reach-finite : (o d p : Float) → T (le (magnitude o) two-to-40) → T (le (magnitude p) two-to-40) → T (finite d) → T (le trillionth (magnitude d)) → T (finite (mul binary64 (sub binary64 p o) (div binary64 one d)))
-unfolding round
-reach-finite o d p O P D h =
-    let x = sub binary64 p o in
-    let y = div binary64 one d in
-    power-finite (mul binary64 x y) 81 (mul-most 41 40 81 refl x y (sub-size p o P O) (inverse-most d D h))

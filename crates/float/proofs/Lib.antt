@@ -10,3 +10,11 @@ pub mod Pick
 pub mod Absolute
 pub mod Total
 pub mod Patterns
+pub mod RootWhole
+pub mod RootHalves
+pub mod RootScaled
+pub mod RootRead
+pub mod RootCases
+pub mod RootNearest
+pub mod RootBounds
+pub mod RootRows

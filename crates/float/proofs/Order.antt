@@ -228,9 +228,3 @@ lt→not-le x y h = not-T (le y x) (λ k. T-not (lt x y) (le→not-lt y x k) h)
 
 pub not-le→lt : (x y : Float) → T (real x) → T (real y) → T (not (le x y)) → T (lt y x)
 not-le→lt x y p q h = elim (either (lt y x)) [ inl k ↦ k | inr k ↦ absurd (T-not (le x y) h (not-lt→le x y p q k)) ]
-
-pub lt-le-trans : (x y z : Float) → T (lt x y) → T (le y z) → T (lt x z)
-lt-le-trans x y z h k = not-le→lt z x (le→real-r y z k) (le→real-l x y (lt→le x y h)) (not-T (le z x) (λ l. T-not (le y x) (lt→not-le x y h) (le-trans y z x k l)))
-
-pub le-lt-trans : (x y z : Float) → T (le x y) → T (lt y z) → T (lt x z)
-le-lt-trans x y z h k = not-le→lt z x (le→real-r y z (lt→le y z k)) (le→real-l x y h) (not-T (le z x) (λ l. T-not (le z y) (lt→not-le y z k) (le-trans z x y l h)))

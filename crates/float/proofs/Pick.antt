@@ -8,7 +8,7 @@ use lib.Ieee.{Float, nan, inf, fin, up, down, lt, le, ne, isNan}
 use Rattle.float.specs.Number.{real}
 use Rattle.float.proofs.Cases.{not-l}
 use Rattle.float.proofs.Order.{lt→le, le→real-l, le→real-r, not-lt→le, le-refl, le-trans}
-use Rattle.float.specs.Pick.{greater, lesser}
+use Rattle.float.specs.Pick.{greater, lesser, lower, higher}
 
 -- a choice between a and b by a test: of the lesser, and of the greater
 module _ (a b : Float) (p : T (real a)) (q : T (real b)) where
@@ -108,11 +108,11 @@ beside-is false nan x p = absurd p
 beside-is false (inf s) x p = refl
 beside-is false (fin s m e) x p = refl
 
-pub lower-is : (run x : Float) → T (real run) → cond (lt x run) x run ≡ lesser run x
+pub lower-is : (run x : Float) → T (real run) → lower run x ≡ lesser run x
 unfolding lesser
 lower-is run x p = beside-is (lt x run) run x p
 
-pub higher-is : (run x : Float) → T (real run) → cond (lt run x) x run ≡ greater run x
+pub higher-is : (run x : Float) → T (real run) → higher run x ≡ greater run x
 unfolding greater
 higher-is run x p = beside-is (lt run x) run x p
 
@@ -121,8 +121,8 @@ picks-real : (t : Bool) (run x : Float) → T (real run) → (T t → T (real x)
 picks-real true run x p h = h tt
 picks-real false run x p h = p
 
-pub lower-real : (run x : Float) → T (real run) → T (real (cond (lt x run) x run))
+pub lower-real : (run x : Float) → T (real run) → T (real (lower run x))
 lower-real run x p = picks-real (lt x run) run x p (λ h. le→real-l x run (lt→le x run h))
 
-pub higher-real : (run x : Float) → T (real run) → T (real (cond (lt run x) x run))
+pub higher-real : (run x : Float) → T (real run) → T (real (higher run x))
 higher-real run x p = picks-real (lt run x) run x p (λ h. le→real-r run x (lt→le run x h))

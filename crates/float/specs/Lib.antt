@@ -1,3 +1,5 @@
 pub mod Number
 pub mod Pick
 pub mod Total
+pub mod Root
+pub mod Nearest

@@ -14,3 +14,10 @@ lesser run x = cond (lt x run || isNan run) x run
 
 unfoldable pub greater : Float → Float → Float
 greater run x = cond (lt run x || isNan run) x run
+
+-- By one comparison: a running NaN is kept. Beside any other running number they are the lesser and the greater (proofs/Pick.antt).
+abbrev pub lower : Float → Float → Float
+lower run x = cond (lt x run) x run
+
+abbrev pub higher : Float → Float → Float
+higher run x = cond (lt run x) x run

@@ -1,10 +1,12 @@
-// The float calls that Rattle lacks, by document 01's rules: the infinity, `abs`, `min`, `max` and `total_cmp`.
+// The float calls that Rattle lacks, by the rules of documents 01 and 02: the infinity, `abs`, `min`, `max`, `total_cmp` and `sqrt`.
 // Each answers on every f64. The laws of the order and of rounding, which the other layers cite, stand in proofs/.
+mod square_root; // square_root.rt: the square root
+
+pub use square_root::root;
 ghost use mathlib.Core.Path.{_≡_};
-ghost use mathlib.Core.Bool.{cond};
-ghost use lib.Ieee.{binary64, toBits, ofBits, lt};
+ghost use lib.Ieee.{binary64, toBits, ofBits};
 ghost use Rattle.float.specs.Number.{infinity};
-ghost use Rattle.float.specs.Pick.{magnitude, lesser, greater};
+ghost use Rattle.float.specs.Pick.{magnitude, lesser, greater, lower, higher};
 ghost use Rattle.float.specs.Total.{totalLess, lessNumber, minusZero};
 
 // +inf, which no literal can be.
@@ -55,14 +57,14 @@ pub fn greater(run: f64, x: f64) -> f64
 
 // Beside a running number that is no NaN, the lesser by one comparison (proofs/Pick.antt: `lower-is`); a running NaN is kept.
 pub fn lower(run: f64, x: f64) -> f64
-    ensures { λ r. ⌜ r ≡ cond (lt x run) x run ⌝ }
+    ensures { λ r. ⌜ r ≡ lower run x ⌝ }
 {
     if run > x { x } else { run }
 }
 
 // The greater, likewise (`higher-is`).
 pub fn higher(run: f64, x: f64) -> f64
-    ensures { λ r. ⌜ r ≡ cond (lt run x) x run ⌝ }
+    ensures { λ r. ⌜ r ≡ higher run x ⌝ }
 {
     if x > run { x } else { run }
 }

@@ -3,7 +3,10 @@ use Prim.Native.Nat.{ℕ}
 use mathlib.Core.Path.{_≡_, sym, ap, _∙_}
 use mathlib.Core.List.{List}
 use lib.Ieee.{Float}
-use Rattle.pigeonmast.specs.Report.{Build, build, Walk, walk, Sky, sky, Test, test}
+use Rattle.pigeonmast.specs.Report.{abi, Build, build, Walk, walk, Sky, sky, Test, test}
+
+pub abi-fixed : (r r' : ℕ) → r ≡ abi → r' ≡ abi → r ≡ r'
+abi-fixed r r' p q = p ∙ sym q
 
 pub build-fixed : (r r' : ℕ) (told told' index index' : List ℕ) (boxes boxes' : List Float) (links links' : List ℕ) (d : Build) → build r told index boxes links ≡ d → build r' told' index' boxes' links' ≡ d
     → (r ≡ r') × (told ≡ told') × (index ≡ index') × (boxes ≡ boxes') × (links ≡ links')

@@ -17,6 +17,11 @@ use Rattle.sky.specs.declared.Filled.{Filled}
 use Rattle.sky.specs.declared.Filled.the-variants.{Places, Refused as Unfilled}
 use Rattle.sky.specs.Sky.{Filling}
 
+-- ---- pigeonmast_abi
+-- the number of the calls' form, PIGEONMAST_ABI of the C header
+abbrev pub abi : ℕ
+abi = 1
+
 -- ---- what passes as numbers
 -- numbers = t, point, normal
 unfoldable pub hitNumbers : Hit → List Float

@@ -17,11 +17,11 @@ ghost use Rattle.aabb.specs.Slab.{slab};
 ghost use Rattle.triangle.specs.Mesh.{triangleAt};
 ghost use Rattle.triangle.specs.Meeting.{strike};
 ghost use Rattle.builder.specs.Build.{built};
-ghost use Rattle.walk.specs.Lent.{lent};
+ghost use Rattle.tree.specs.Lent.{lent};
 ghost use Rattle.walk.specs.Answer.{told as answered};
 ghost use Rattle.walk.specs.Walk as scene;
 ghost use Rattle.sky.specs.Sky.{sky as filled};
-ghost use Rattle.pigeonmast.specs.Report.{hitNumbers, frontNumber, sideNumber, build, buildAnswer, buildTold, buildReport, walk, walked, sky, skyAnswer, skyAt, skyReport, test, slabReport, triangleReport};
+ghost use Rattle.pigeonmast.specs.Report.{abi, hitNumbers, frontNumber, sideNumber, build, buildAnswer, buildTold, buildReport, walk, walked, sky, skyAnswer, skyAt, skyReport, test, slabReport, triangleReport};
 
 // A hit's seven numbers: t, point, normal.
 fn hit_numbers(hit: Hit) -> [f64; 7]
@@ -135,6 +135,15 @@ fn tell_triangle(found: Found, numbers: &mut [f64; 7]) -> u32
         }
         Found::Nothing => 0,
     }
+}
+
+// The number of these calls' form: it rises when a call's parameters, or what it writes, change, so that a caller can tell that its declarations
+// are those of the library it is linked with. A call that is added leaves it as it is.
+#[no_mangle]
+pub extern "C" fn pigeonmast_abi() -> u32
+    ensures { λ r. ⌜ r ≡ abi ⌝ }
+{
+    1
 }
 
 // Builds the tree of the triangles (twelve numbers each: v0, v1, v2, normal) into the lent index list, boxes and links. 0 and told = node

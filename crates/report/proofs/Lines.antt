@@ -9,7 +9,7 @@ use Rattle.triangle.specs.declared.Hit.{Hit}
 use Rattle.walk.specs.declared.Answer.{Answer}
 use Rattle.walk.specs.declared.Answer.the-variants.{Struck, Missed, Refused}
 use Rattle.walk.specs.Answer.{Told, told}
-use Rattle.walk.specs.Lent.{Lent}
+use Rattle.tree.specs.Lent.{Lent}
 use Rattle.walk.specs.Walk.{walk}
 use Rattle.report.specs.Little.{rayOf}
 use Rattle.report.specs.Lines.{hitLine, missLine, refusedLine, walkedLine, answerLine, rayLine}

@@ -13,7 +13,7 @@ use lib.Ieee.{Float}
 use Rattle.builder.specs.declared.Built.{Built}
 use Rattle.builder.specs.declared.Built.the-variants.{Tree, Refused}
 use Rattle.builder.specs.Build.{outcome}
-use Rattle.walk.specs.Lent.{Lent, lent}
+use Rattle.tree.specs.Lent.{Lent, lent}
 use Rattle.report.specs.declared.input.Input.{Input}
 use Rattle.report.specs.declared.input.Input.the-variants.{Good, Bad}
 use Rattle.report.specs.Little.{numbers}

@@ -7,7 +7,7 @@ use Rattle.float.specs.Number.{nought}
 use Rattle.builder.specs.declared.Built.{Built}
 use Rattle.builder.specs.declared.Built.the-variants.{Tree, Refused}
 use Rattle.builder.specs.Build.{Outcome, built}
-use Rattle.walk.specs.Lent.{Lent, lent}
+use Rattle.tree.specs.Lent.{Lent, lent}
 use Rattle.walk.specs.Walk.{walk}
 use Rattle.report.specs.declared.input.Input.{Input}
 use Rattle.report.specs.declared.input.Input.the-variants.{Good, Bad}

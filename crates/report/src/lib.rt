@@ -12,7 +12,7 @@ ghost use mathlib.Core.Path.{_≡_};
 ghost use Prim.Native.Nat.{_+_, _*_, _≤_, min};
 ghost use lib.ListN.{length};
 ghost use Rattle.io.specs.Counts.{Counts};
-ghost use Rattle.walk.specs.Lent.{lent};
+ghost use Rattle.tree.specs.Lent.{lent};
 ghost use Rattle.report.specs.Input.{most};
 ghost use Rattle.report.specs.Text.{Wrote};
 ghost use Rattle.report.specs.Survey.{rayLines, reported, surveyed};

@@ -14,7 +14,7 @@ use Rattle.lent.proofs.Flat.{fill-more, records-length, records-at}
 use Rattle.aabb.specs.declared.vector.Ray.{Ray}
 use Rattle.aabb.specs.Vector.{rayAt}
 use Rattle.walk.specs.declared.Answer.{Answer}
-use Rattle.walk.specs.Lent.{Lent}
+use Rattle.tree.specs.Lent.{Lent}
 use Rattle.walk.specs.Answer.{told as answered}
 use Rattle.walk.specs.Walk.{walk}
 use Rattle.sky.specs.declared.Filled.the-variants.{Places}
@@ -71,7 +71,7 @@ module _ (s : Lent) (rays : List Float) where
   filled-is n times times′ told told′ e f = rw (e, f)
 
   -- where none of the checks fails, every place is filled
-  pub served : (times : List Float) (told : List ℕ) → length (s .triangles) % 12 ≡ 0 → triangleCount (s .triangles) ≤ most-triangles → length rays % 6 ≡ 0 → rayCount rays ≤ length times → rayCount rays * 4 ≤ length told
+  pub served : (times : List Float) (told : List ℕ) → length (s .mesh .triangles) % 12 ≡ 0 → triangleCount (s .mesh .triangles) ≤ most-triangles → length rays % 6 ≡ 0 → rayCount rays ≤ length times → rayCount rays * 4 ≤ length told
       → filled s rays (rayCount rays) times told ≡ sky s rays times told
   unfolding sky
   served times told whole few sixes timed roomy = ends (goes (agree whole) (goes (not-below few) (goes (agree sixes) (goes (not-below timed) (goes (not-below roomy) (serves refl))))))

@@ -11,7 +11,7 @@ use Rattle.float.specs.Number.{nought}
 use Rattle.aabb.specs.Vector.{rayAt}
 use Rattle.triangle.specs.declared.Found.{Found}
 use Rattle.triangle.specs.declared.Found.the-variants.{At, Nothing}
-use Rattle.walk.specs.Lent.{Lent}
+use Rattle.tree.specs.Lent.{Lent}
 use Rattle.walk.specs.Answer.{Told}
 use Rattle.walk.specs.Walk.{walk}
 use Rattle.sky.specs.declared.Filled.{Filled}
@@ -76,8 +76,8 @@ filled s rays n times told = filling Places (records (timesFor s rays) n ++ drop
 unfoldable pub sky : Lent → List Float → List Float → List ℕ → Filling
 sky s rays times told =
     unless
-    (ragged (s .triangles)
-    ∷ crowded (s .triangles)
+    (ragged (s .mesh .triangles)
+    ∷ crowded (s .mesh .triangles)
     ∷ check (not (eqb (length rays % 6) 0)) 14 0
     ∷ check (ltb (length times) (rayCount rays)) 13 0
     ∷ check (ltb (length told) (rayCount rays * 4)) 13 0

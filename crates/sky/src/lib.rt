@@ -7,7 +7,7 @@ ghost use mathlib.Core.List.{_++_};
 ghost use Prim.Native.Nat.{_+_, _*_, _≤_};
 ghost use lib.ListN.{length, set, drop};
 ghost use Rattle.lent.specs.Flat.{put as written, records};
-ghost use Rattle.walk.specs.Lent.{lent};
+ghost use Rattle.tree.specs.Lent.{lent};
 ghost use Rattle.walk.specs.Answer.{told as answered};
 ghost use Rattle.sky.specs.Sky.{placeOf, toldOf, timesFor, toldFor, filling, sky};
 

@@ -37,7 +37,7 @@ module _ (i j m k : ℕ) (e : round binary64 false (2 ^ i * 2 ^ j) 1 ≡ power m
   unfolding minor
   minor-most a b c d p q r s = sub-most m k f (mul binary64 a b) (mul binary64 c d) (mul-most i j m e a b p q) (mul-most i j m e c d r s)
 
-  cross-most : (a b : Vec3) → AllAtMost i a → AllAtMost j b → AllAtMost k (cross a b)
+  pub cross-most : (a b : Vec3) → AllAtMost i a → AllAtMost j b → AllAtMost k (cross a b)
   unfolding cross
   cross-most a b p q = (
     minor-most (a .y) (b .z) (a .z) (b .y) (p .1) (q .2) (p .2) (q .1),
@@ -45,7 +45,7 @@ module _ (i j m k : ℕ) (e : round binary64 false (2 ^ i * 2 ^ j) 1 ≡ power m
     minor-most (a .x) (b .y) (a .y) (b .x) (p .0) (q .1) (p .1) (q .0),
   )
 
-  dot-most : (n : ℕ) → round binary64 false (2 ^ k + 2 ^ k) 1 ≡ power n → T (le (power m) (power k)) → (a b : Vec3) → AllAtMost i a → AllAtMost j b → AtMost n (dot a b)
+  pub dot-most : (n : ℕ) → round binary64 false (2 ^ k + 2 ^ k) 1 ≡ power n → T (le (power m) (power k)) → (a b : Vec3) → AllAtMost i a → AllAtMost j b → AtMost n (dot a b)
   unfolding dot
   dot-most n g h a b p q =
       let x = mul binary64 (a .x) (b .x) in
@@ -54,16 +54,26 @@ module _ (i j m k : ℕ) (e : round binary64 false (2 ^ i * 2 ^ j) 1 ≡ power m
       add-most k n g (add binary64 x y) z (add-most m k f x y (mul-most i j m e (a .x) (b .x) (p .0) (q .0)) (mul-most i j m e (a .y) (b .y) (p .1) (q .1)))
       (power-wider m k z h (mul-most i j m e (a .z) (b .z) (p .2) (q .2)))
 
--- ---- the numbers of the test
-module _ (r : Ray) (a : Triangle) (R : T (admittedRay r)) (A : T (admittedTriangle a)) where
-  forty : (v : Vec3) → T (allWithin two-to-40 v) → AllAtMost 40 v
-  unfolding along
-  forty v h = (rw two-to-40-is at (within-along two-to-40 0 v h), rw two-to-40-is at (within-along two-to-40 1 v h), rw two-to-40-is at (within-along two-to-40 2 v h))
+forty : (v : Vec3) → T (allWithin two-to-40 v) → AllAtMost 40 v
+unfolding along
+forty v h = (rw two-to-40-is at (within-along two-to-40 0 v h), rw two-to-40-is at (within-along two-to-40 1 v h), rw two-to-40-is at (within-along two-to-40 2 v h))
 
+-- ---- the edges
+module _ (a : Triangle) (A : T (admittedTriangle a)) where
   vertices : AllAtMost 40 (a .v0) × AllAtMost 40 (a .v1) × AllAtMost 40 (a .v2)
   unfolding admittedTriangle
   vertices = (forty (a .v0) (search (and-l, and-r)), forty (a .v1) (search (and-l, and-r)), forty (a .v2) (search (and-l, and-r)))
 
+  pub edge1-most : AllAtMost 41 (edge1 a)
+  unfolding edge1
+  edge1-most = minus-most (a .v1) (a .v0) (vertices .1) (vertices .0)
+
+  pub edge2-most : AllAtMost 41 (edge2 a)
+  unfolding edge2
+  edge2-most = minus-most (a .v2) (a .v0) (vertices .2) (vertices .0)
+
+-- ---- the numbers of the test
+module _ (r : Ray) (a : Triangle) (R : T (admittedRay r)) (A : T (admittedTriangle a)) where
   origin-most : AllAtMost 40 (r .origin)
   unfolding admittedRay
   origin-most = forty (r .origin) (search (and-l, and-r))
@@ -74,29 +84,21 @@ module _ (r : Ray) (a : Triangle) (R : T (admittedRay r)) (A : T (admittedTriang
       let h : T (allWithin two (r .direction)) = search (and-l, and-r) in
       (rw two-is at (within-along two 0 (r .direction) h), rw two-is at (within-along two 1 (r .direction) h), rw two-is at (within-along two 2 (r .direction) h))
 
-  edge1-most : AllAtMost 41 (edge1 a)
-  unfolding edge1
-  edge1-most = minus-most (a .v1) (a .v0) (vertices .1) (vertices .0)
-
-  edge2-most : AllAtMost 41 (edge2 a)
-  unfolding edge2
-  edge2-most = minus-most (a .v2) (a .v0) (vertices .2) (vertices .0)
-
   tvec-most : AllAtMost 41 (tvec r a)
   unfolding tvec
-  tvec-most = minus-most (r .origin) (a .v0) origin-most (vertices .0)
+  tvec-most = minus-most (r .origin) (a .v0) origin-most (vertices a A .0)
 
   pvec-most : AllAtMost 43 (pvec r a)
   unfolding pvec round
-  pvec-most = cross-most 1 41 42 43 refl refl (r .direction) (edge2 a) direction-most edge2-most
+  pvec-most = cross-most 1 41 42 43 refl refl (r .direction) (edge2 a) direction-most (edge2-most a A)
 
   qvec-most : AllAtMost 83 (qvec r a)
   unfolding qvec round
-  qvec-most = cross-most 41 41 82 83 refl refl (tvec r a) (edge1 a) tvec-most edge1-most
+  qvec-most = cross-most 41 41 82 83 refl refl (tvec r a) (edge1 a) tvec-most (edge1-most a A)
 
   det-most : AtMost 86 (det r a)
   unfolding det round le
-  det-most = dot-most 41 43 84 85 refl refl 86 refl tt (edge1 a) (pvec r a) edge1-most pvec-most
+  det-most = dot-most 41 43 84 85 refl refl 86 refl tt (edge1 a) (pvec r a) (edge1-most a A) pvec-most
 
   -- where the ray is not parallel to the triangle
   module _ (n : T (not (lt (magnitude (det r a)) ten-billionth))) where
@@ -121,7 +123,7 @@ module _ (r : Ray) (a : Triangle) (R : T (admittedRay r)) (A : T (admittedTriang
 
     t-most : AtMost 166 (tOf r a)
     unfolding tOf round le
-    t-most = mul-most 126 40 166 refl (dot (edge2 a) (qvec r a)) (invDet r a) (dot-most 41 83 124 125 refl refl 126 refl tt (edge2 a) (qvec r a) edge2-most qvec-most) inverse
+    t-most = mul-most 126 40 166 refl (dot (edge2 a) (qvec r a)) (invDet r a) (dot-most 41 83 124 125 refl refl 126 refl tt (edge2 a) (qvec r a) (edge2-most a A) qvec-most) inverse
 
     pub record Finite : Type 0 where
       pub det-is : T (finite (det r a))

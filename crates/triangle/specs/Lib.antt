@@ -1,2 +1,4 @@
 pub mod Mesh
 pub mod Meeting
+pub mod Normal
+pub mod Refilled

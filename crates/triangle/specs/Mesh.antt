@@ -1,6 +1,6 @@
 -- Triangles, and the mesh that holds them: twelve numbers each, v0, v1, v2, normal. Definitions only.
-use Prim.Native.Nat.{ℕ, _+_, _*_}
-use mathlib.Core.Bool.{Bool, _&&_}
+use Prim.Native.Nat.{ℕ, zero, suc, _+_, _*_}
+use mathlib.Core.Bool.{Bool, true, false, _&&_}
 use mathlib.Core.List.{List}
 use lib.Ieee.{Float}
 use Rattle.float.specs.Number.{two, three, two-to-40}
@@ -9,6 +9,8 @@ use Rattle.aabb.specs.declared.bounds.Aabb.{Aabb}
 use Rattle.aabb.specs.Vector.{plus, divided, along, allWithin, vectorAt}
 use Rattle.aabb.specs.Bounds.{ofThree}
 use Rattle.triangle.specs.declared.Triangle.{Triangle}
+use Rattle.triangle.specs.declared.Unadmitted.{Unadmitted}
+use Rattle.triangle.specs.declared.Unadmitted.the-variants.{At, Nothing}
 
 -- triangle i of a mesh
 unfoldable pub triangleAt : List Float → ℕ → Triangle
@@ -32,3 +34,8 @@ boundsAt mesh i = boundsOf (triangleAt mesh i)
 
 unfoldable pub centroidAt : List Float → ℕ → ℕ → Float
 centroidAt mesh axis i = along axis (centroidOf (triangleAt mesh i))
+
+-- the lowest of k triangle numbers from i on whose triangle isn't admitted
+unfoldable pub firstRefused : List Float → ℕ → ℕ → Unadmitted
+firstRefused mesh i zero = Nothing
+firstRefused mesh i (suc k) = elim (admittedTriangle (triangleAt mesh i)) [ true ↦ firstRefused mesh (suc i) k | false ↦ At i ]

@@ -1,15 +1,19 @@
 // Triangles and the Möller–Trumbore test: a port of triangle.rs. Every call answers on every f64.
-// Left out, as document 01 says: `Triangle::new`, the conversion from optics_core, `material_id`. The hit carries the triangle's number in
+// Left out, as document 01 says: the conversion from optics_core, `material_id`. The hit carries the triangle's number in
 // place of `surface_index`. A mesh is a lent slice, twelve numbers a triangle: v0, v1, v2, normal.
+mod normals; // normals.rt: Triangle::new, and the normals of a whole mesh
+
 use aabb::Aabb;
 use aabb::Ray;
 use aabb::Vec3;
+pub use normals::Refill;
+pub use normals::refill_normals;
 ghost use mathlib.Core.Path.{_≡_};
 ghost use Prim.Native.Nat.{_+_, _≤_};
 ghost use lib.ListN.{length};
 ghost use Rattle.float.specs.Number.{three};
 ghost use Rattle.aabb.specs.Vector.{vectorAt, plus, divided};
-ghost use Rattle.triangle.specs.Mesh.{triangleAt, boundsOf, centroidOf, admittedTriangle};
+ghost use Rattle.triangle.specs.Mesh.{triangleAt, boundsOf, centroidOf, admittedTriangle, firstRefused};
 ghost use Rattle.triangle.specs.Meeting.{det, uOf, vOf, tOf, judged, distance, hitAt, strike};
 
 pub struct Triangle {
@@ -53,6 +57,12 @@ pub struct Crossing {
 pub enum Distance {
     To(f64),
     None,
+}
+
+// The lowest number of a triangle of a mesh that isn't admitted, if there is one.
+pub enum Unadmitted {
+    At(usize),
+    Nothing,
 }
 
 impl Triangle {
@@ -253,6 +263,21 @@ pub fn admitted_at(mesh: &[f64], i: usize) -> bool
         return t.admitted();
     }
     false
+}
+
+// The lowest number, below n, of a triangle that isn't admitted.
+pub fn first_refused(mesh: &[f64], n: usize) -> Unadmitted
+    ensures { λ r. ⌜ r ≡ firstRefused (now (mesh .entry)) 0 n ⌝ }
+{
+    let mut i: usize = 0;
+    while i < n {
+        if admitted_at(mesh, i) {
+            i += 1;
+        } else {
+            return Unadmitted::At(i);
+        }
+    }
+    Unadmitted::Nothing
 }
 
 // Three numbers of a mesh that are there: one test of a triangle's place does for all twelve.

@@ -8,11 +8,12 @@ use lib.ListN.{length, getD}
 use Rattle.aabb.specs.declared.vector.Ray.{Ray}
 use Rattle.walk.specs.declared.pending.Pending.{Pending}
 use Rattle.walk.specs.declared.tally.Tally.{Tally}
-use Rattle.walk.specs.declared.step.Turn.{Turn}
-use Rattle.walk.specs.declared.step.Turn.the-variants.{Refuse, Down, Open}
-use Rattle.walk.specs.Lent.{Lent, most-pending, most-nodes, nodeCount}
-use Rattle.walk.specs.Walk.{start, visit, refused, over, onward, run}
-use Rattle.walk.specs.State.{top, pending, Ready}
+use Rattle.walk.specs.declared.turn.Turn.{Turn}
+use Rattle.walk.specs.declared.turn.Turn.the-variants.{Refuse, Missed, Down, Open}
+use Rattle.tree.specs.Lent.{Lent, nodeCount}
+use Rattle.lent.specs.Limits.{most-pending, most-nodes}
+use Rattle.walk.specs.Walk.{start, boxed, visit, refused, over, onward, run}
+use Rattle.walk.specs.State.{top, pending, besides, Ready}
 use Rattle.walk.proofs.Listed.{taken, length-top}
 use Rattle.walk.proofs.Kept.{Counted, Opens, Leaves, visited}
 
@@ -22,7 +23,7 @@ Each n [] = Unit {0}
 Each n (x ∷ xs) = (x < n) × Each n xs
 
 pub record Going (s : Lent) (r : Ray) (n : ℕ) (p : Pending) (a : Tally) : Type 0 where
-  pub whole : n ≡ nodeCount (s .links)
+  pub whole : n ≡ nodeCount (s .tree .links)
   pub few : n ≤ most-nodes
   pub room : p .len ≤ most-pending
   pub below : Each n (pending p)
@@ -30,7 +31,7 @@ pub record Going (s : Lent) (r : Ray) (n : ℕ) (p : Pending) (a : Tally) : Type
   pub counted : a .triangles ≤ a .boxes * 2 ^ 32
   pub same : run s r (n - a .boxes) (pending p) a ≡ run s r n (0 ∷ []) start
 
-pub none-pending : (s : Lent) (r : Ray) (left : ℕ) (a : Tally) → run s r left [] a ≡ over (s .triangles) r a
+pub none-pending : (s : Lent) (r : Ray) (left : ℕ) (a : Tally) → run s r left [] a ≡ over (s .mesh) r a
 unfolding run
 none-pending s r zero a = refl
 none-pending s r (suc left) a = refl
@@ -39,11 +40,11 @@ none-left : (s : Lent) (r : Ray) (left i : ℕ) (rest : List ℕ) (a : Tally) �
 unfolding run
 none-left s r left i rest a e = rw e
 
-pub one-left : (s : Lent) (r : Ray) (left more i : ℕ) (rest : List ℕ) (a : Tally) → left ≡ suc more → run s r left (i ∷ rest) a ≡ onward (visit s r i (length rest) a) rest (run s r more)
+pub one-left : (s : Lent) (r : Ray) (left more i : ℕ) (rest : List ℕ) (a : Tally) → left ≡ suc more → run s r left (i ∷ rest) a ≡ onward (visit s r i (length rest) (boxed a)) rest (boxed a) (run s r more)
 unfolding run
 one-left s r left more i rest a e = rw e
 
-pub begun : (s : Lent) (r : Ray) (p : Pending) → 0 < nodeCount (s .links) → nodeCount (s .links) ≤ most-nodes → p .len ≡ 1 → pending p ≡ 0 ∷ [] → Going s r (nodeCount (s .links)) p start
+pub begun : (s : Lent) (r : Ray) (p : Pending) → 0 < nodeCount (s .tree .links) → nodeCount (s .tree .links) ≤ most-nodes → p .len ≡ 1 → pending p ≡ 0 ∷ [] → Going s r (nodeCount (s .tree .links)) p start
 begun s r p h m l f = record {
   whole = refl;
   few = m;
@@ -54,86 +55,114 @@ begun s r p h m l f = record {
   same = rw (f, sub-zero);
 }
 
-module _ (s : Lent) (r : Ray) (n : ℕ) (p : Pending) (a : Tally) (G : Going s r n p a) where
-  -- nothing is pending
-  pub ended : p .len ≡ 0 → over (s .triangles) r a ≡ run s r n (0 ∷ []) start
-  ended e =
-      sym (none-pending s r (n - a .boxes) a)
-      ∙ ap (λ (k : ℕ). run s r (n - a .boxes) (top (p .nodes) k) a) (sym e)
-      ∙ G .same
+-- nothing is pending
+pub ended : {s : Lent} {r : Ray} {n : ℕ} {p : Pending} {a : Tally} → Going s r n p a → p .len ≡ 0 → over (s .mesh) r a ≡ run s r n (0 ∷ []) start
+ended {s} {r} {n} {p} {a} G e =
+    sym (none-pending s r (n - a .boxes) a)
+    ∙ ap (λ (k : ℕ). run s r (n - a .boxes) (top (p .nodes) k) a) (sym e)
+    ∙ G .same
 
-  module _ (some : 0 < p .len) where
-    abbrev last : ℕ
-    last = getD (p .nodes) (p .len - 1) 0
+abbrev pub lastOf : Pending → ℕ
+lastOf p = getD (p .nodes) (p .len - 1) 0
 
-    abbrev rest : List ℕ
-    rest = top (p .nodes) (p .len - 1)
+-- the last one is taken
+module _ {s : Lent} {r : Ray} {n : ℕ} {p : Pending} {a : Tally} (G : Going s r n p a) (some : 0 < p .len) where
+  pub apart : run s r (n - a .boxes) (lastOf p ∷ besides p) a ≡ run s r n (0 ∷ []) start
+  apart = rw (← (taken (p .nodes) (p .len) some)) (G .same)
 
-    apart : run s r (n - a .boxes) (last ∷ rest) a ≡ run s r n (0 ∷ []) start
-    apart = rw (← (taken (p .nodes) (p .len) some)) (G .same)
+  pub all-below : (lastOf p < n) × Each n (besides p)
+  all-below = rw (taken (p .nodes) (p .len) some) at (G .below)
 
-    pub all-below : (last < n) × Each n rest
-    all-below = rw (taken (p .nodes) (p .len) some) at (G .below)
+  -- and no box test is left
+  pub spent : n ≤ a .boxes → refused 12 (lastOf p) ≡ run s r n (0 ∷ []) start
+  spent h = sym (none-left s r (n - a .boxes) (lastOf p) (besides p) a (omega arith)) ∙ apart
 
-    -- the last one is taken, and no box test is left
-    pub spent : n ≤ a .boxes → refused 12 last ≡ run s r n (0 ∷ []) start
-    spent h = sym (none-left s r (n - a .boxes) last rest a (omega arith)) ∙ apart
+-- its box test is counted
+pub record Counting (s : Lent) (r : Ray) (n : ℕ) (p : Pending) (a b : Tally) : Type 0 where
+  pub going : Going s r n p a
+  pub some : 0 < p .len
+  pub more : a .boxes < n
+  pub one : b ≡ boxed a
 
-    module _ (more : a .boxes < n) where
-      pub ready : Ready (s .links) last (p .len - 1) a
-      ready = let w = G .whole in let f = G .few in let c = G .counted in let m = G .room in record {
-        here = omega (arith, all-below .0);
+module _ {s : Lent} {r : Ray} {n : ℕ} {p : Pending} {a b : Tally} (C : Counting s r n p a b) where
+  pub one-box : b .boxes ≡ a .boxes + 1
+  unfolding boxed
+  one-box = ap (λ (t : Tally). t .boxes) (C .one)
+
+  no-triangle : b .triangles ≡ a .triangles
+  unfolding boxed
+  no-triangle = ap (λ (t : Tally). t .triangles) (C .one)
+
+  pub ready : Ready (s .tree .links) (lastOf p) (p .len - 1) b
+  ready =
+      let G = C .going in
+      let w = G .whole in
+      let f = G .few in
+      let c = G .counted in
+      let m = G .room in
+      let l = C .more in record {
+        here = omega (arith, all-below G (C .some) .0);
         few = omega arith;
         room = omega arith;
-        boxes = omega arith;
-        triangles = omega arith;
+        triangles = omega (arith, no-triangle);
       }
 
-      module _ (t : Turn) (e : t ≡ visit s r last (p .len - 1) a) where
-        next : onward t rest (run s r (n - (a .boxes + 1))) ≡ run s r n (0 ∷ []) start
-        next =
-            ap (λ (u : Turn). onward u rest (run s r (n - (a .boxes + 1)))) e
-            ∙ ap (λ (k : ℕ). onward (visit s r last k a) rest (run s r (n - (a .boxes + 1)))) (sym (length-top (p .nodes) (p .len - 1)))
-            ∙ sym (one-left s r (n - a .boxes) (n - (a .boxes + 1)) last rest a (omega arith))
-            ∙ apart
+  -- and it is visited
+  module _ {t : Turn} (e : t ≡ visit s r (lastOf p) (p .len - 1) b) where
+    next : onward t (besides p) b (run s r (n - (a .boxes + 1))) ≡ run s r n (0 ∷ []) start
+    next =
+        ap (λ (u : Turn). onward u (besides p) b (run s r (n - (a .boxes + 1)))) e
+        ∙ ap (λ (k : ℕ). onward (visit s r (lastOf p) k b) (besides p) b (run s r (n - (a .boxes + 1)))) (sym (length-top (p .nodes) (p .len - 1)))
+        ∙ ap (λ (c : Tally). onward (visit s r (lastOf p) (length (besides p)) c) (besides p) c (run s r (n - (a .boxes + 1)))) (C .one)
+        ∙ sym (one-left s r (n - a .boxes) (n - (a .boxes + 1)) (lastOf p) (besides p) a (omega (arith, C .more)))
+        ∙ apart (C .going) (C .some)
 
-        pub stopped : (k i : ℕ) → t ≡ Refuse k i → refused k i ≡ run s r n (0 ∷ []) start
-        stopped k i f = rw f at next
+    pub stopped : (k i : ℕ) → t ≡ Refuse k i → refused k i ≡ run s r n (0 ∷ []) start
+    stopped k i g = rw g at next
 
-        module _ (small : (k : ℕ) → getD (s .links) k 0 < 2 ^ 32) where
-          bounds : Leaves (nodeCount (s .links)) (p .len - 1) (a .boxes + 1) (a .triangles + 2 ^ 32) t
-          bounds = rw e (visited s r last (p .len - 1) a small)
+    went : (q : Pending) (c : Tally) → q .len ≤ most-pending → Each n (pending q) → Counted (b .boxes) (b .triangles + 2 ^ 32) c
+        → run s r (n - (a .boxes + 1)) (pending q) c ≡ run s r n (0 ∷ []) start → Going s r n q c
+    went q c l k m h = record {
+      whole = C .going .whole;
+      few = C .going .few;
+      room = l;
+      below = k;
+      most = omega (arith, m .tests, one-box, C .more);
+      counted = omega (arith, m .tests, m .most, one-box, no-triangle, C .going .counted);
+      same = ap (λ (k : ℕ). run s r (n - k) (pending q) c) (m .tests ∙ one-box) ∙ h;
+    }
 
-          went : (q : Pending) (b : Tally) → q .len ≤ most-pending → Each n (pending q) → Counted (a .boxes + 1) (a .triangles + 2 ^ 32) b
-              → run s r (n - (a .boxes + 1)) (pending q) b ≡ run s r n (0 ∷ []) start → Going s r n q b
-          went q b l k c h = record {
-            whole = G .whole;
-            few = G .few;
-            room = l;
-            below = k;
-            most = omega (arith, c .tests);
-            counted = omega (arith, c .tests, c .most, G .counted);
-            same = ap (λ (k : ℕ). run s r (n - k) (pending q) b) (c .tests) ∙ h;
-          }
+    unchanged : Counted (b .boxes) (b .triangles + 2 ^ 32) b
+    unchanged = record { tests = refl; most = omega arith }
 
-          -- the node is done with
-          pub down : (q : Pending) (b : Tally) → t ≡ Down b → q .len ≡ p .len - 1 → pending q ≡ rest → Going s r n q b
-          down q b f l h =
-              let c : Counted (a .boxes + 1) (a .triangles + 2 ^ 32) b = rw f at bounds in
-              went q b (omega (arith, G .room)) (rw h (all-below .1)) c (rw h (rw f at next))
+    -- its box is missed
+    pub missed : t ≡ Missed → (q : Pending) → q .len ≡ p .len - 1 → pending q ≡ besides p → Going s r n q b
+    missed g q l h = went q b (omega (arith, C .going .room)) (rw h (all-below (C .going) (C .some) .1)) unchanged (rw h (rw g at next))
 
-          pub down-less : (b : Tally) → t ≡ Down b → b .boxes ≡ a .boxes + 1
-          down-less b f = let c : Counted (a .boxes + 1) (a .triangles + 2 ^ 32) b = rw f at bounds in c .tests
+    module _ (small : (k : ℕ) → getD (s .tree .links) k 0 < 2 ^ 32) where
+      bounds : Leaves (nodeCount (s .tree .links)) (p .len - 1) (b .boxes) (b .triangles + 2 ^ 32) t
+      bounds = rw e (visited s r (lastOf p) (p .len - 1) b small)
 
-          -- its children take its place
-          pub open-room : (left right : ℕ) (b : Tally) → t ≡ Open left right b → p .len < most-pending
-          open-room left right b f = let c : Opens (nodeCount (s .links)) (p .len - 1) (a .boxes + 1) (a .triangles + 2 ^ 32) left right b = rw f at bounds in omega (arith, c .room)
+      -- a leaf is done with
+      module _ {c : Tally} (g : t ≡ Down c) where
+        counts : Counted (b .boxes) (b .triangles + 2 ^ 32) c
+        counts = rw g at bounds
 
-          pub opens : (q : Pending) (left right : ℕ) (b : Tally) → t ≡ Open left right b → q .len ≡ p .len + 1 → pending q ≡ left ∷ right ∷ rest → Going s r n q b
-          opens q left right b f l h =
-              let c : Opens (nodeCount (s .links)) (p .len - 1) (a .boxes + 1) (a .triangles + 2 ^ 32) left right b = rw f at bounds in
-              let w = G .whole in
-              went q b (omega (arith, c .room)) (rw h (omega (arith, c .left-there), (omega (arith, c .right-there), all-below .1))) (c .counts) (rw h (rw f at next))
+        pub down-box : c .boxes ≡ a .boxes + 1
+        down-box = counts .tests ∙ one-box
 
-          pub open-less : (left right : ℕ) (b : Tally) → t ≡ Open left right b → b .boxes ≡ a .boxes + 1
-          open-less left right b f = let c : Opens (nodeCount (s .links)) (p .len - 1) (a .boxes + 1) (a .triangles + 2 ^ 32) left right b = rw f at bounds in c .counts .tests
+        pub down : (q : Pending) → q .len ≡ p .len - 1 → pending q ≡ besides p → Going s r n q c
+        down q l h = went q c (omega (arith, C .going .room)) (rw h (all-below (C .going) (C .some) .1)) counts (rw h (rw g at next))
+
+      -- its children take its place
+      module _ {left right : ℕ} (g : t ≡ Open left right) where
+        opened : Opens (nodeCount (s .tree .links)) (p .len - 1) left right
+        opened = rw g at bounds
+
+        pub open-room : p .len < most-pending
+        open-room = omega (arith, opened .room, C .some)
+
+        pub opens : (q : Pending) → q .len ≡ p .len + 1 → pending q ≡ left ∷ right ∷ besides p → Going s r n q b
+        opens q l h =
+            let w = C .going .whole in
+            went q b (omega (arith, open-room)) (rw h (omega (arith, opened .left-there), (omega (arith, opened .right-there), all-below (C .going) (C .some) .1))) unchanged (rw h (rw g at next))

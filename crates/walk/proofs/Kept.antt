@@ -1,4 +1,4 @@
--- What a visit leaves where it goes on: one box test more, few triangle tests more, and children that there are and that there is room for.
+-- What a visit leaves where it goes on: no box test and few triangle tests more, and children that there are and that there is room for.
 -- Assumes nothing.
 use mathlib.Core.Path.{_≡_, refl}
 use mathlib.Core.Bool.{Bool, true, false, _||_, cond}
@@ -14,27 +14,30 @@ use Rattle.aabb.specs.declared.vector.Ray.{Ray}
 use Rattle.aabb.specs.Slab.{passes}
 use Rattle.triangle.specs.Mesh.{triangleAt, admittedTriangle}
 use Rattle.walk.specs.declared.tally.Tally.{Tally}
-use Rattle.walk.specs.declared.step.Turn.{Turn}
-use Rattle.walk.specs.declared.step.Turn.the-variants.{Refuse, Down, Open}
-use Rattle.walk.specs.declared.node.Node.{Node}
-use Rattle.walk.specs.Lent.{Lent, most-pending, triangleCount, nodeCount, leftOrFirst, nodeAt, sound, leftOf, rightOf}
-use Rattle.walk.specs.Walk.{boxed, tested, scan, openLeaf, openInternal, opened, judged, visit}
+use Rattle.walk.specs.declared.turn.Turn.{Turn}
+use Rattle.walk.specs.declared.turn.Turn.the-variants.{Refuse, Missed, Down, Open}
+use Rattle.tree.specs.declared.Node.{Node}
+use Rattle.tree.specs.Lent.{Lent, nodeCount}
+use Rattle.lent.specs.Limits.{most-pending}
+use Rattle.lent.specs.Ladder.{triangleCount}
+use Rattle.tree.specs.Node.{leftOrFirst, linked, nodeAt, nodeOf, sound, leftOf, rightOf}
+use Rattle.walk.specs.Walk.{tested, scan, openLeaf, openInternal, opened, judged, visit}
 
 -- so many box tests, and at most so many triangle tests
 pub record Counted (boxes triangles : ℕ) (a : Tally) : Type 0 where
   pub tests : a .boxes ≡ boxes
   pub most : a .triangles ≤ triangles
 
-pub record Opens (nodes besides boxes triangles left right : ℕ) (a : Tally) : Type 0 where
+pub record Opens (nodes besides left right : ℕ) : Type 0 where
   pub left-there : left < nodes
   pub right-there : right < nodes
   pub room : besides + 2 ≤ most-pending
-  pub counts : Counted boxes triangles a
 
 abbrev pub Leaves : ℕ → ℕ → ℕ → ℕ → Turn → Type 0
 Leaves nodes besides b t (Refuse k i) = Unit {0}
+Leaves nodes besides b t Missed = Unit {0}
 Leaves nodes besides b t (Down a) = Counted b t a
-Leaves nodes besides b t (Open left right a) = Opens nodes besides b t left right a
+Leaves nodes besides b t (Open left right) = Opens nodes besides left right
 
 either : (P : Turn → Type 0) (d : Bool) (t u : Turn) → (d ≡ true → P t) → (d ≡ false → P u) → P (cond d t u)
 either P true t u f g = f refl
@@ -64,46 +67,41 @@ module _ (nodes besides boxes most : ℕ) where
       either P (ltb (length index) (leftOrFirst x + x .count)) (Refuse 9 i) (scan mesh index r (x .count) (leftOrFirst x) a) (λ e. tt)
       (λ e. scanned mesh index r t (x .count) (leftOrFirst x) a h l)
 
-  internal-opened : (i : ℕ) (x : Node) (a : Tally) → Counted boxes most a → P (openInternal nodes i x besides a)
+  internal-opened : (i : ℕ) (x : Node) → P (openInternal nodes i x besides)
   unfolding openInternal
-  internal-opened i x a h =
-      let l = leb nodes (leftOf x) in
-      let r = leb nodes (rightOf x) in
+  internal-opened i x =
+      let l = leb nodes (leftOf i x) in
+      let r = leb nodes (rightOf i x) in
       let full = ltb most-pending (besides + 2) in
-      let put = Open (leftOf x) (rightOf x) a in
+      let put = Open (leftOf i x) (rightOf i x) in
       either P (l || r) (Refuse 9 i) (cond full (Refuse 11 i) put) (λ e. tt)
       (λ e. either P full (Refuse 11 i) put (λ f. tt)
       (λ f. record {
-        left-there = leb-false nodes (leftOf x) (neither l r e .0);
-        right-there = leb-false nodes (rightOf x) (neither l r e .1);
+        left-there = leb-false nodes (leftOf i x) (neither l r e .0);
+        right-there = leb-false nodes (rightOf i x) (neither l r e .1);
         room = ltb-false most-pending (besides + 2) f;
-        counts = h;
       }))
 
-module _ (s : Lent) (r : Ray) (i besides : ℕ) (a : Tally) (small : (k : ℕ) → getD (s .links) k 0 < 2 ^ 32) where
+module _ (s : Lent) (r : Ray) (i besides : ℕ) (a : Tally) (small : (k : ℕ) → getD (s .tree .links) k 0 < 2 ^ 32) where
   abbrev Q : Turn → Type 0
-  Q t = Leaves (nodeCount (s .links)) besides (a .boxes + 1) (a .triangles + 2 ^ 32) t
+  Q t = Leaves (nodeCount (s .tree .links)) besides (a .boxes) (a .triangles + 2 ^ 32) t
 
-  now-boxed : (t : ℕ) → a .triangles ≤ t → Counted (a .boxes + 1) t (boxed a)
-  unfolding boxed
-  now-boxed t h = record { tests = refl; most = h }
-
-  few : nodeAt (s .boxes) (s .links) i .count < 2 ^ 32
-  unfolding nodeAt
+  few : nodeOf (s .tree) i .count < 2 ^ 32
+  unfolding linked nodeAt
   few = small (i * 3 + 1)
 
   pub visited : Q (visit s r i besides a)
   unfolding visit judged opened
   visited =
-      let n = nodeCount (s .links) in
-      let x = nodeAt (s .boxes) (s .links) i in
-      let leaf = openLeaf (s .triangles) (s .index) r i x (boxed a) in
-      let internal = openInternal n i x besides (boxed a) in
+      let n = nodeCount (s .tree .links) in
+      let x = nodeOf (s .tree) i in
+      let leaf = openLeaf (s .mesh .triangles) (s .tree .index) r i x a in
+      let internal = openInternal n i x besides in
       let t = a .triangles in
-      either Q (sound x) (cond (passes r (x .bounds)) (cond (eqb (x .kind) 1) leaf internal) (Down (boxed a))) (Refuse 9 i)
-      (λ e. either Q (passes r (x .bounds)) (cond (eqb (x .kind) 1) leaf internal) (Down (boxed a))
+      either Q (sound x) (cond (passes r (x .bounds)) (cond (eqb (x .kind) 1) leaf internal) Missed) (Refuse 9 i)
+      (λ e. either Q (passes r (x .bounds)) (cond (eqb (x .kind) 1) leaf internal) Missed
       (λ f. either Q (eqb (x .kind) 1) leaf internal
-      (λ g. leaf-opened n besides (a .boxes + 1) (t + 2 ^ 32) (s .triangles) (s .index) r i t x (boxed a) (now-boxed t (omega arith)) (omega (arith, few)))
-      (λ g. internal-opened n besides (a .boxes + 1) (t + 2 ^ 32) i x (boxed a) (now-boxed (t + 2 ^ 32) (omega arith))))
-      (λ f. now-boxed (t + 2 ^ 32) (omega arith)))
+      (λ g. leaf-opened n besides (a .boxes) (t + 2 ^ 32) (s .mesh .triangles) (s .tree .index) r i t x a (record { tests = refl; most = omega arith }) (omega (arith, few)))
+      (λ g. internal-opened n besides (a .boxes) (t + 2 ^ 32) i x))
+      (λ f. tt))
       (λ e. tt)

@@ -4,8 +4,3 @@ pub mod Judged
 pub mod Kept
 pub mod Going
 pub mod Entrance
-pub mod Accepting
-pub mod NearestHit
-pub mod SameHit
-pub mod Sighting
-pub mod Straight

@@ -16,17 +16,14 @@ put : (nodes : List ℕ) (k v : ℕ) → k < length nodes → top (set nodes k v
 put nodes k v h = rw (add-one k) (rw (getD-set-same nodes k v 0 h, top-set nodes k v k (omega arith)))
 
 -- right in the last one's place, then left
-put-both : (nodes : List ℕ) (k left right : ℕ) → k + 1 < length nodes → top (set (set nodes k right) (k + 1) left) (k + 1 + 1) ≡ left ∷ right ∷ top nodes k
-put-both nodes k left right room = put (set nodes k right) (k + 1) left (simp length-set room) ∙ ap (λ (l : List ℕ). left ∷ l) (put nodes k right (omega arith))
-
-pub both-pending : (nodes after : List ℕ) (n len more left right : ℕ) → length nodes ≡ n → 0 < len → len < n → more ≡ len + 1 → after ≡ set (set nodes (len - 1) right) (len - 1 + 1) left
-    → (top after more ≡ left ∷ right ∷ top nodes (len - 1)) × (length after ≡ n)
-both-pending nodes after n len more left right all some room e f = (
-  ap (λ (l : List ℕ). top l more) f
-      ∙ ap (top (set (set nodes (len - 1) right) (len - 1 + 1) left)) {x = more} {y = len - 1 + 1 + 1} (omega (arith, e))
-      ∙ put-both nodes (len - 1) left right (omega arith),
-  rw f (simp length-set all),
-)
+pub both-pending : (nodes : List ℕ) (n len left right : ℕ) → 0 < len → len < n → length nodes ≡ n
+    → (top (set (set nodes (len - 1) right) len left) (len + 1) ≡ left ∷ right ∷ top nodes (len - 1)) × (length (set (set nodes (len - 1) right) len left) ≡ n)
+both-pending nodes n len left right some room all =
+    let once : List ℕ = set nodes (len - 1) right in (
+      put once len left (simp length-set (omega arith))
+          ∙ ap (λ (l : List ℕ). left ∷ l) (ap (top once) {x = len} {y = len - 1 + 1} (omega arith) ∙ put nodes (len - 1) right (omega arith)),
+      simp length-set all,
+    )
 
 -- as many fewer as were dropped
 pub fewer : (nodes after : List ℕ) (k less : ℕ) → less ≡ k → after ≡ nodes → top after less ≡ top nodes k

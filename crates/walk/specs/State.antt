@@ -1,5 +1,5 @@
 -- What the inner functions promise, besides the definitions of the walk: nothing that is public speaks of these. Definitions only.
-use Prim.Native.Nat.{ℕ, zero, suc, _+_, _^_, _≤_, _<_}
+use Prim.Native.Nat.{ℕ, zero, suc, _-_, _^_, _≤_, _<_}
 use mathlib.Core.Bool.{cond}
 use mathlib.Core.List.{List, [], _∷_}
 use lib.Dec.{leb}
@@ -12,7 +12,9 @@ use Rattle.walk.specs.declared.tally.Nearest.{Nearest}
 use Rattle.walk.specs.declared.tally.Tally.{Tally}
 use Rattle.walk.specs.declared.leaf.Verdict.{Verdict}
 use Rattle.walk.specs.declared.leaf.Verdict.the-variants.{Fit, Unfit}
-use Rattle.walk.specs.Lent.{most-pending, triangleCount, nodeCount}
+use Rattle.lent.specs.Limits.{most-nodes, most-pending}
+use Rattle.lent.specs.Ladder.{triangleCount}
+use Rattle.tree.specs.Lent.{nodeCount}
 use Rattle.walk.specs.Walk.{after}
 
 -- the first so many of the array, the last one first
@@ -23,12 +25,15 @@ top nodes (suc k) = getD nodes k 0 ∷ top nodes k
 abbrev pub pending : Pending → List ℕ
 pending p = top (p .nodes) (p .len)
 
--- what a visit of node i asks: there is such a node, there is room to speak of two more, and the counts are far from wrapping
+-- all but the last one
+abbrev pub besides : Pending → List ℕ
+besides p = top (p .nodes) (p .len - 1)
+
+-- what a visit of node i asks: there is such a node, there is room to speak of two more, and the triangle tests are far from wrapping
 pub record Ready (links : List ℕ) (i besides : ℕ) (a : Tally) : Type 0 where
   pub here : i < nodeCount links
-  pub few : nodeCount links ≤ 2 ^ 20
+  pub few : nodeCount links ≤ most-nodes
   pub room : besides ≤ most-pending
-  pub boxes : a .boxes < 2 ^ 60
   pub triangles : a .triangles < 2 ^ 60
 
 -- a leaf in two passes. The first looks for what refuses a leaf's entries, 10 and 5

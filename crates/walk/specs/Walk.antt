@@ -19,10 +19,13 @@ use Rattle.triangle.specs.Meeting.{distance, hitAt}
 use Rattle.walk.specs.declared.tally.Nearest.{Nearest}
 use Rattle.walk.specs.declared.tally.Nearest.the-variants.{Unmet, Met}
 use Rattle.walk.specs.declared.tally.Tally.{Tally}
-use Rattle.walk.specs.declared.step.Turn.{Turn}
-use Rattle.walk.specs.declared.step.Turn.the-variants.{Refuse, Down, Open}
-use Rattle.walk.specs.declared.node.Node.{Node}
-use Rattle.walk.specs.Lent.{Lent, most-nodes, most-pending, triangleCount, nodeCount, leftOrFirst, nodeAt, sound, leftOf, rightOf}
+use Rattle.walk.specs.declared.turn.Turn.{Turn}
+use Rattle.walk.specs.declared.turn.Turn.the-variants.{Refuse, Missed, Down, Open}
+use Rattle.tree.specs.declared.Node.{Node}
+use Rattle.tree.specs.Lent.{Mesh, Lent, nodeCount}
+use Rattle.lent.specs.Limits.{most-nodes, most-pending}
+use Rattle.lent.specs.Ladder.{triangleCount}
+use Rattle.tree.specs.Node.{leftOrFirst, nodeOf, sound, leftOf, rightOf, misfit}
 use Rattle.walk.specs.Answer.{Told}
 
 -- ---- the tally: the two counts, and the hit so far, by its t and its triangle's number
@@ -64,23 +67,23 @@ unfoldable pub openLeaf : List Float → List ℕ → Ray → ℕ → Node → T
 openLeaf mesh index r i x a = cond (ltb (length index) (leftOrFirst x + x .count)) (Refuse 9 i) (scan mesh index r (x .count) (leftOrFirst x) a)
 
 -- For an internal node: a child number beyond the nodes (9); 11
-unfoldable pub openInternal : ℕ → ℕ → Node → ℕ → Tally → Turn
-openInternal nodes i x besides a =
-    cond (leb nodes (leftOf x) || leb nodes (rightOf x)) (Refuse 9 i)
-    (cond (ltb most-pending (besides + 2)) (Refuse 11 i) (Open (leftOf x) (rightOf x) a))
+unfoldable pub openInternal : ℕ → ℕ → Node → ℕ → Turn
+openInternal nodes i x besides =
+    cond (leb nodes (leftOf i x) || leb nodes (rightOf i x)) (Refuse 9 i)
+    (cond (ltb most-pending (besides + 2)) (Refuse 11 i) (Open (leftOf i x) (rightOf i x)))
 
 unfoldable pub opened : Lent → Ray → ℕ → Node → ℕ → Tally → Turn
 opened s r i x besides a =
-    cond (eqb (x .kind) 1) (openLeaf (s .triangles) (s .index) r i x a)
-    (openInternal (nodeCount (s .links)) i x besides a)
+    cond (eqb (x .kind) 1) (openLeaf (s .mesh .triangles) (s .tree .index) r i x a)
+    (openInternal (nodeCount (s .tree .links)) i x besides)
 
--- bad kind, unusable box, or internal with count not 0 (9); the box test; counts one box test, and passes or drops it
+-- bad kind, unusable box, or internal with count not 0 (9); the box test: passes or drops it
 unfoldable pub judged : Lent → Ray → ℕ → Node → ℕ → Tally → Turn
-judged s r i x besides a = cond (sound x) (cond (passes r (x .bounds)) (opened s r i x besides (boxed a)) (Down (boxed a))) (Refuse 9 i)
+judged s r i x besides a = cond (sound x) (cond (passes r (x .bounds)) (opened s r i x besides a) Missed) (Refuse 9 i)
 
--- node i, taken from the pending ones, with so many pending besides
+-- node i, taken from the pending ones, with so many pending besides; its box test is counted
 unfoldable pub visit : Lent → Ray → ℕ → ℕ → Tally → Turn
-visit s r i besides a = judged s r i (nodeAt (s .boxes) (s .links) i) besides a
+visit s r i besides a = judged s r i (nodeOf (s .tree) i) besides a
 
 -- ---- the walk
 -- A refused walk gives number and at, no hit, zero counts.
@@ -88,41 +91,36 @@ abbrev pub refused : ℕ → ℕ → Told
 refused k i = record { refusal = numbered k i; hit = Nothing; boxes = 0; triangles = 0 }
 
 -- the hit, made from its t and its triangle's number
-unfoldable pub hitOf : List Float → Ray → Nearest → Found
-hitOf mesh r Unmet = Nothing
-hitOf mesh r (Met t k) = At (hitAt r (triangleAt mesh k) k t)
+unfoldable pub hitOf : Mesh → Ray → Nearest → Found
+hitOf m r Unmet = Nothing
+hitOf m r (Met t k) = At (hitAt r (triangleAt (m .triangles) k) k t)
 
 -- a hit with its numbers and counts, a miss with counts
-unfoldable pub over : List Float → Ray → Tally → Told
-over mesh r a = record { refusal = none; hit = hitOf mesh r (a .nearest); boxes = a .boxes; triangles = a .triangles }
+unfoldable pub over : Mesh → Ray → Tally → Told
+over m r a = record { refusal = none; hit = hitOf m r (a .nearest); boxes = a .boxes; triangles = a .triangles }
 
 -- An internal node puts right, then left on the pending list. (The last pending node stands first.)
-abbrev pub onward : Turn → List ℕ → (List ℕ → Tally → Told) → Told
-onward (Refuse k i) rest go = refused k i
-onward (Down a) rest go = go rest a
-onward (Open left right a) rest go = go (left ∷ right ∷ rest) a
+abbrev pub onward : Turn → List ℕ → Tally → (List ℕ → Tally → Told) → Told
+onward (Refuse k i) rest a go = refused k i
+onward Missed rest a go = go rest a
+onward (Down b) rest a go = go rest b
+onward (Open left right) rest a go = go (left ∷ right ∷ rest) a
 
--- Each step takes the last pending node. The number is how many box tests are left: a box test beyond the number of nodes is refused (12).
+-- Each step takes the last pending node and counts one box test. The number is how many are left: a box test beyond the number of nodes is refused (12).
 unfoldable pub run : Lent → Ray → ℕ → List ℕ → Tally → Told
-run s r zero [] a = over (s .triangles) r a
+run s r zero [] a = over (s .mesh) r a
 run s r zero (i ∷ rest) a = refused 12 i
-run s r (suc left) [] a = over (s .triangles) r a
-run s r (suc left) (i ∷ rest) a = onward (visit s r i (length rest) a) rest (run s r left)
-
--- links empty, not a multiple of 3, over 131,071 nodes, or boxes not twice as long as links
-unfoldable pub misfit : List Float → List ℕ → Bool
-misfit boxes links =
-    eqb (length links) 0
-    || (not (eqb (length links % 3) 0) || (ltb most-nodes (nodeCount links) || not (eqb (length boxes) (2 * length links))))
+run s r (suc left) [] a = over (s .mesh) r a
+run s r (suc left) (i ∷ rest) a = onward (visit s r i (length rest) (boxed a)) rest (boxed a) (run s r left)
 
 -- Walk order: 1, 2, 7, 8, then in the order of steps.
 unfoldable pub walk : Lent → Ray → Told
 walk s r =
     unless
-    (ragged (s .triangles)
-    ∷ crowded (s .triangles)
+    (ragged (s .mesh .triangles)
+    ∷ crowded (s .mesh .triangles)
     ∷ check (not (admittedRay r)) 7 0
-    ∷ check (misfit (s .boxes) (s .links)) 8 0
+    ∷ check (misfit (s .tree .boxes) (s .tree .links)) 8 0
     ∷ [])
     refused
-    (run s r (nodeCount (s .links)) (0 ∷ []) start)
+    (run s r (nodeCount (s .tree .links)) (0 ∷ []) start)

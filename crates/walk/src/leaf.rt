@@ -1,11 +1,11 @@
 // A leaf's triangles, in two passes: first whatever refuses an entry, 10 or 5, then every test. A refusal discards what the tests found, so
 // the answers are those of one pass.
-use crate::node::Node;
-use crate::step::Turn;
 use crate::tally;
 use crate::tally::Nearest;
 use crate::tally::Tally;
+use crate::turn::Turn;
 use aabb::Ray;
+use tree::Node;
 ghost use mathlib.Core.Path.{_≡_};
 ghost use Prim.Native.Nat.{_+_, _<_, _≤_, _^_};
 ghost use lib.ListN.{length};

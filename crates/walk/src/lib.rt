@@ -3,25 +3,25 @@
 // refusal, on any lists; the Rust panics on the 65th pending node and can run for ever on a looping tree.
 mod tally; // tally.rt: the counts and the hit so far
 mod pending; // pending.rt: the pending node numbers
-mod node; // node.rt: a node of the lent lists
-mod aim; // aim.rt: the ray, prepared for the box tests
+mod turn; // turn.rt: how a step ends
 mod leaf; // leaf.rt: a leaf's triangles
 mod step; // step.rt: one step
 
+use aabb::Aim;
 use aabb::Ray;
-use aim::Aim;
 use pending::Pending;
-use step::Turn;
 use tally::Nearest;
 use tally::Tally;
 use triangle::Hit;
 use triangle::Triangle;
+use turn::Turn;
 ghost use mathlib.Core.Path.{_≡_};
 ghost use mathlib.Core.List.{[], _∷_};
 ghost use Prim.Native.Nat.{_<_, _≤_};
-ghost use Rattle.walk.specs.Lent.{lent, nodeCount, most-nodes};
+ghost use Rattle.tree.specs.Lent.{meshOf, lent, nodeCount};
+ghost use Rattle.lent.specs.Limits.{most-nodes};
 ghost use Rattle.walk.specs.Answer.{told};
-ghost use Rattle.walk.specs.Walk.{over, start, run, misfit, walk};
+ghost use Rattle.walk.specs.Walk.{over, start, run, walk};
 
 // The walk's answer: a hit with its numbers and counts, a miss with counts, or a refusal, with document 01's number and `at`.
 pub enum Answer {
@@ -42,7 +42,7 @@ pub enum Answer {
 
 // The answer of a walk that has no node pending any more.
 fn over(triangles: &[f64], ray: Ray, a: Tally) -> Answer
-    ensures { λ r. ⌜ told r ≡ over (now (triangles .entry)) ray a ⌝ }
+    ensures { λ r. ⌜ told r ≡ over (meshOf (now (triangles .entry))) ray a ⌝ }
 {
     let best = a.nearest;
     match best {
@@ -85,6 +85,7 @@ fn run(triangles: &[f64], index: &[u32], boxes: &[f64], links: &[u32], ray: Ray)
                 at: i as u64,
             };
         }
+        a = a.boxed();
         match step::visit(triangles, index, boxes, links, aim, i, besides, a) {
             Turn::Refuse { number, at } => {
                 return Answer::Refused { number, at };
@@ -96,34 +97,19 @@ fn run(triangles: &[f64], index: &[u32], boxes: &[f64], links: &[u32], ray: Ray)
                     last = pending.nodes[besides - 1];
                 }
             }
-            Turn::Open { left, right, tally } => {
-                a = tally;
-                // Right, then left in the room beyond those that are pending besides.
-                pending.nodes[besides] = right;
-                pending.nodes[besides + 1] = left;
-                pending = pending.opened();
+            Turn::Missed => {
+                pending = pending.dropped();
+                if 0 < besides {
+                    last = pending.nodes[besides - 1];
+                }
+            }
+            Turn::Open { left, right } => {
+                pending = pending.opened(left, right);
                 last = left;
             }
         }
     }
     over(triangles, ray, a)
-}
-
-// Refusal 8: links empty, not a multiple of 3, over 131,071 nodes, or boxes not twice as long as links.
-fn misfit(boxes: &[f64], links: &[u32]) -> bool
-    ensures { λ r. ⌜ r ≡ misfit (now (boxes .entry)) (now (links .entry)) ⌝ }
-{
-    let n = links.len();
-    if n == 0 {
-        return true;
-    }
-    if n % 3 != 0 {
-        return true;
-    }
-    if lent::MOST_NODES < n / 3 {
-        return true;
-    }
-    boxes.len() != 2 * n
 }
 
 // The nearest hit of the ray among the triangles of the leaves that it reaches, from node 0 on through boxes that it passes, at an equal t the
@@ -148,7 +134,7 @@ pub fn walk(triangles: &[f64], index: &[u32], boxes: &[f64], links: &[u32], ray:
     if !ray.admitted() {
         return Answer::Refused { number: 7, at: 0 };
     }
-    if misfit(boxes, links) {
+    if tree::misfit(boxes, links) {
         return Answer::Refused { number: 8, at: 0 };
     }
     run(triangles, index, boxes, links, ray)

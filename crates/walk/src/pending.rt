@@ -3,8 +3,8 @@ ghost use mathlib.Core.Path.{_≡_};
 ghost use mathlib.Core.List.{[], _∷_};
 ghost use Prim.Native.Nat.{_+_, _-_, _<_};
 ghost use lib.ListN.{length};
-ghost use Rattle.walk.specs.Lent.{most-pending};
-ghost use Rattle.walk.specs.State.{pending};
+ghost use Rattle.lent.specs.Limits.{most-pending};
+ghost use Rattle.walk.specs.State.{pending, besides};
 
 // The first `len` of the numbers are pending; the last of them is taken next.
 pub struct Pending {
@@ -35,15 +35,18 @@ impl Pending {
         }
     }
 
-    // The last one is opened: its children stand in its place and in the next, and both are pending.
-    pub fn opened(self) -> Pending
-        requires { ⌜ self .len < most-pending ⌝ }
-        ensures { λ r. ⌜ (r .len ≡ self .len + 1) × (r .nodes ≡ self .nodes) ⌝ }
+    // The last one is opened: right, then left are put on the list in its place.
+    pub fn opened(self, left: u32, right: u32) -> Pending
+        requires { ⌜ (0 < self .len) × (self .len < most-pending) × (length (self .nodes) ≡ most-pending) ⌝ }
+        ensures { λ r. ⌜ (r .len ≡ self .len + 1) × (pending r ≡ left ∷ right ∷ besides self) × (length (r .nodes) ≡ most-pending) ⌝ }
     {
-        let nodes = self.nodes;
+        let len = self.len;
+        let mut nodes = self.nodes;
+        nodes[len - 1] = right;
+        nodes[len] = left;
         Pending {
             nodes,
-            len: self.len + 1,
+            len: len + 1,
         }
     }
 }

@@ -1,6 +1,6 @@
 //! Hostile lists and the published Rust: where the reading finds nothing to
 //! refuse, the Rust neither panics nor loops and must answer the same, with
-//! document 02's rule at a tie; where it refuses the 65th pending, the Rust must
+//! rule E1 at a tie; where it refuses the 65th pending, the Rust must
 //! panic.
 
 use crate::calls::{all, same, READING};

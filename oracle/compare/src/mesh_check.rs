@@ -1,6 +1,6 @@
 //! A mesh and its rays held to the published Rust: the tree to the second
-//! build (document 01's order), hits and counts to `intersect_blas` (document
-//! 02's rule at a tie) and cost.rs.
+//! build (rule C5's order), hits and counts to `intersect_blas` (rule E1 at a
+//! tie) and cost.rs.
 
 use crate::calls::{all, equal, same, Calls};
 use crate::random::Random;
@@ -198,7 +198,7 @@ fn built(calls: &Calls, case: &Case, tree: &Tree) -> Result<Option<Lists>, Strin
 }
 
 /// One ray on a built tree: `intersect_blas` as published, its texts that count,
-/// the inner loop of cost.rs, and cost.rs unchanged. What document 02 wants.
+/// the inner loop of cost.rs, and cost.rs unchanged. What rule E1 wants.
 fn walked(
     calls: &Calls,
     mesh: &[f64],

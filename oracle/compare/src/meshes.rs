@@ -1,4 +1,4 @@
-//! Meshes of every kind around each boundary of document 01, as lent: twelve
+//! Meshes of every kind around each boundary of the rules, as lent: twelve
 //! numbers a triangle.
 
 use crate::random::Random;

@@ -1,5 +1,5 @@
-//! The published walk and document 02. At numerically equal t the Rust keeps the
-//! first visited, document 02 the lowest triangle number; all else is the same.
+//! The published walk and rule E1. At numerically equal t the Rust keeps the
+//! first visited, rule E1 the lowest triangle number; all else is the same.
 
 use crate::calls::{all, same};
 use crate::world::{self, Tree};
@@ -7,7 +7,7 @@ use optics_core::{HitRecord, Ray};
 use published::counts::{intersect_blas_counted, intersect_blas_ruled};
 use published::triangle::Triangle;
 
-/// What document 02 wants of a walk.
+/// What rule E1 wants of a walk.
 #[derive(Debug)]
 pub struct Ruled {
     pub hit: Option<HitRecord>,
@@ -19,7 +19,7 @@ pub struct Ruled {
     pub moved: bool,
 }
 
-/// The published text with document 02's rule, held to the text as it stands:
+/// The published text with rule E1, held to the text as it stands:
 /// hit or miss, the bits of t and the counts always, and the whole hit but where
 /// the Rust keeps one that is tied with a lower number.
 pub fn walk(ray: &Ray, tree: &Tree, triangles: &[Triangle]) -> Result<Ruled, String> {

@@ -58,7 +58,7 @@ pub fn build(mesh: &[Triangle]) -> Tree {
     Tree { nodes, indices }
 }
 
-/// With document 01's order, and whether the fallback ran.
+/// With rule C5's order, and whether the fallback ran.
 pub fn build_ordered(mesh: &[Triangle]) -> (Tree, bool) {
     let before = published::fallbacks();
     let (nodes, indices) = ordered::build_bvh(mesh);

@@ -1,4 +1,4 @@
-//! The smallest mesh on which the Rust and document 02 name different triangles.
+//! The smallest mesh on which the Rust and rule E1 name different triangles.
 
 use compare::calls::READING;
 use compare::random::Random;

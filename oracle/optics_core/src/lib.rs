@@ -1,4 +1,4 @@
-//! What document 01 fixes of `optics_core` and nalgebra, and no more: the
+//! What rules V1 to V5 (docs/RULES.md) fix of `optics_core` and nalgebra, and no more: the
 //! published files compile over this unchanged.
 //!
 //! Dot is ((x·x' + y·y') + z·z'); cross is (y·z'-z·y', z·x'-x·z', x·y'-y·x');
@@ -38,7 +38,7 @@ impl Vec3 {
         )
     }
 
-    // `Triangle::new` needs the two below to compile. Document 01 leaves that
+    // `Triangle::new` needs the two below to compile. The rules leave that
     // call out, so nothing here runs them.
     pub fn norm_squared(&self) -> f64 {
         self.dot(self)

@@ -33,7 +33,7 @@ pub mod scene {
     }
 }
 
-/// The texts that count: from scene.rs, as it stands and with document 02's rule
+/// The texts that count: from scene.rs, as it stands and with rule E1
 /// at a tie, and from cost.rs.
 pub mod counts {
     use crate::builder::BvhNode;

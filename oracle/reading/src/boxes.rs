@@ -1,4 +1,4 @@
-//! Module 1 of document 01: boxes.
+//! Rules V and B of docs/RULES.md: vectors, boxes, the slab test.
 
 use crate::{within, REACH};
 

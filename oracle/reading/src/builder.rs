@@ -1,4 +1,4 @@
-//! Module 4 of document 01: the builder, with its refusals and its buffers.
+//! Rules C of docs/RULES.md: the builder, with its refusals and its buffers.
 
 use crate::boxes::{union, Bounds, EMPTY};
 use crate::split::best;

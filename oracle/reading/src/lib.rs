@@ -1,5 +1,4 @@
-//! A plain reading of document 01, and of document 02's requests as they are
-//! served, written from the paper and not from the
+//! A plain reading of the rules (docs/RULES.md), written from them and not from the
 //! Rust. It answers where the Rust panics or loops: refusals, hostile lists,
 //! and what every lent buffer holds at the end.
 //!

@@ -1,4 +1,4 @@
-//! Request A1 of document 02: a sky of rays in one call.
+//! Rules K of docs/RULES.md: a sky of rays in one call.
 
 use crate::boxes::Ray;
 use crate::walk::{walk, Answer};

@@ -1,4 +1,4 @@
-//! Module 3 of document 01: the choice of a split.
+//! Rules S of docs/RULES.md: the choice of a split.
 
 use crate::boxes::{area, greater, lesser, union, Bounds, EMPTY};
 use crate::triangles::{bounds, centroid, triangle};

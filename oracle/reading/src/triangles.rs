@@ -1,4 +1,4 @@
-//! Module 2 of document 01: triangles.
+//! Rules T of docs/RULES.md: triangles.
 
 use crate::boxes::{grow, Bounds, Ray, EMPTY};
 use crate::{within, DIRECTION_REACH, REACH};

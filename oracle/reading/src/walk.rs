@@ -1,5 +1,5 @@
-//! Module 5 of document 01: the walk, with every refusal in the order of steps,
-//! and document 02's rule at a tie.
+//! Rules W and E of docs/RULES.md: the walk, with every refusal in the order of
+//! steps, and ties.
 
 use crate::boxes::{slab, usable, Bounds, Ray};
 use crate::triangles::{admitted, meet, ray_admitted, triangle, Met};

@@ -1,11 +1,13 @@
-//! The crate's own types on top of the five calls: that nothing is lost or
+//! The crate's own types on top of the calls: that nothing is lost or
 //! turned around between `Bvh` and `raw`.
+
+use std::num::NonZeroUsize;
 
 use compare::random::Random;
 use compare::{meshes, rays};
-use pigeonmast::{raw, Bvh, Place, Ray, Walk};
+use pigeonmast::{raw, Bvh, Place, Ray, Refusal, Walk};
 
-fn told(answer: Result<pigeonmast::Walk, pigeonmast::Refusal>) -> (u32, [u64; 4], [f64; 7]) {
+fn told(answer: Result<Walk, Refusal>) -> (u32, [u64; 4], [f64; 7]) {
     let walk = match answer {
         Ok(walk) => walk,
         Err(refusal) => return (refusal.number(), [refusal.at(), 0, 0, 0], [0.0; 7]),
@@ -70,14 +72,33 @@ fn one(seed: u64) -> Result<u64, String> {
     let places = bvh
         .sky(&lent_rays)
         .map_err(|why| format!("Bvh::sky: {why}"))?;
-    let of_walk = |walk: Walk| Place {
-        hit: walk.hit.map(|h| (h.triangle, h.t)),
-        box_tests: walk.box_tests,
-        triangle_tests: walk.triangle_tests,
+    let of_place = |p: Place| {
+        (
+            p.hit.map(|h| (h.triangle, h.t)),
+            p.box_tests,
+            p.triangle_tests,
+        )
+    };
+    let of_walk = |w: Walk| {
+        (
+            w.hit.map(|h| (h.triangle, h.t)),
+            w.box_tests,
+            w.triangle_tests,
+        )
+    };
+    let of_sky = |places: &[Result<Place, Refusal>]| -> Vec<_> {
+        places.iter().map(|one| one.map(of_place)).collect()
     };
     let wanted: Vec<_> = singles.into_iter().map(|one| one.map(of_walk)).collect();
-    if places != wanted {
+    if of_sky(&places) != wanted {
         return Err(format!("Bvh::sky: {places:?}, the single walks {wanted:?}"));
+    }
+    // And dealt out to threads.
+    let threads = NonZeroUsize::MIN.saturating_add(r.below(4));
+    if bvh.sky_parallel(&lent_rays, threads) != Ok(places) {
+        return Err(format!(
+            "Bvh::sky_parallel on {threads} threads is not Bvh::sky"
+        ));
     }
     Ok(8)
 }

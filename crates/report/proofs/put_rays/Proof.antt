@@ -4,7 +4,7 @@ use Prim.Native.Nat.{_+_, _*_, _-_, _≤_}
 use borrow.Author.Needs.{needs}
 use native.Mathlib.Omega.{arith}
 use lib.ListN.{length}
-use Rattle.walk.specs.Lent.{lent}
+use Rattle.tree.specs.Lent.{lent}
 use Rattle.report.specs.Text.{Wrote}
 use Rattle.report.specs.Survey.{rayLines}
 use Rattle.report.proofs.Writing.{and-then, wrote-none, wrote-as}

@@ -6,7 +6,7 @@ use native.Mathlib.Omega.{arith}
 use borrow.Author.Needs.{needs}
 use lib.ListN.{length, drop}
 use Rattle.lent.specs.Flat.{records}
-use Rattle.walk.specs.Lent.{lent}
+use Rattle.tree.specs.Lent.{lent}
 use Rattle.sky.specs.Sky.{timesFor, toldFor}
 use Rattle.sky.proofs.Room.{place-is, none-yet, none-told, time-more, told-more}
 use Rattle.sky.proofs.fill.Statement.{statement}

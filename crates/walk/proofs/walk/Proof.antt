@@ -5,7 +5,7 @@ use borrow.Author.Needs.{needs}
 use Rattle.lent.proofs.Ladder.{ends, goes, stops, serves, agree, differ, below, not-below}
 use Rattle.walk.specs.Answer.{told}
 use Rattle.walk.specs.Walk.{walk}
-use Rattle.walk.proofs.Entrance.{fitting}
+use Rattle.tree.proofs.Fitted.{fitting}
 use Rattle.walk.proofs.walk.Statement.{statement}
 use Rattle.walk.proofs.walk.Tie as tie
 

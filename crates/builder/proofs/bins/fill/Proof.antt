@@ -15,16 +15,16 @@ use Rattle.builder.proofs.bins.fill.Statement.{statement}
 use Rattle.builder.proofs.bins.fill.Tie as tie
 
 abbrev Inv-loop : tie.InvT-loop
-Inv-loop triangles index min scale boxes₀ counts₀ i₀ boxes counts i = (i ≤ length index) × Lanes i boxes counts × Ahead triangles min scale index i boxes counts × (length index ≤ most-triangles) × (length boxes₀ ≡ 288) × (length counts₀ ≡ 48)
+Inv-loop triangles index min scale boxes₀ counts₀ i₀ boxes counts i = (i ≤ length index) × Lanes i boxes counts × Ahead triangles min scale index i boxes counts × (length index ≤ most-triangles)
 
 abbrev μ-loop : tie.MeasureT-loop
 μ-loop triangles index min scale boxes₀ counts₀ i₀ boxes counts i = length index - i
 
 loop-holds : tie.Need-loop-holds Inv-loop μ-loop
 loop-holds c =
-    let a = c .before .before .before .before .args in
-    let v = c .before .before .before .before .pre .1 .1 in
-    (search needs, v .lanes, ahead-start (a .triangles .now) (a .min) (a .scale) (a .index .now) (a .boxes .now) (a .counts .now) v, c .before .before .before .before .pre .1 .0, v .lanes .boxes-long, v .lanes .counts-long)
+    let a = c .before .before .args in
+    let v = c .before .before .pre .1 .1 in
+    (search needs, v .lanes, ahead-start (a .triangles .now) (a .min) (a .scale) (a .index .now) (a .boxes .now) (a .counts .now) v, c .before .before .pre .1 .0)
 
 mul-corners : tie.Need-mul-corners Inv-loop μ-loop
 mul-corners c = search needs
@@ -34,7 +34,7 @@ shared-slice-read-corners c = omega (arith, c .before .loop-test .taken)
 
 corners-requires : tie.Need-corners-requires Inv-loop μ-loop
 corners-requires c κs =
-    let s = c .before .before .before .before .before .before .before in
+    let s = c .before .before .before .before .before in
     s .pre .0 _ (occ-at (s .args .index .now) (c .before .before .loop .i) (c .before .loop-test .taken))
 
 centroid-requires : tie.Need-centroid-requires Inv-loop μ-loop
@@ -46,20 +46,11 @@ box-of-requires c κs = search needs
 bin-of-requires : tie.Need-bin-of-requires Inv-loop μ-loop
 bin-of-requires c κs = search needs
 
-cast-x : tie.Need-cast-x Inv-loop μ-loop
-cast-x c = omega (arith, c .bin-of .ensures .1)
-
 bin-of-requires-2 : tie.Need-bin-of-requires-2 Inv-loop μ-loop
 bin-of-requires-2 c κs = search needs
 
-cast-y : tie.Need-cast-y Inv-loop μ-loop
-cast-y c = omega (arith, c .bin-of2 .ensures .1)
-
 bin-of-requires-3 : tie.Need-bin-of-requires-3 Inv-loop μ-loop
 bin-of-requires-3 c κs = search needs
-
-cast-z : tie.Need-cast-z Inv-loop μ-loop
-cast-z c = omega (arith, c .bin-of3 .ensures .1)
 
 put-requires : tie.Need-put-requires Inv-loop μ-loop
 put-requires c κs =
@@ -69,73 +60,65 @@ put-requires c κs =
     (omega (arith, x .ensures .1), lanes-up (l .i) most-triangles (l .boxes) (l .counts) (omega (arith, c .before .before .before .before .before .before .before .before .before .before .before .before .before .before .before .before .before .before .loop-test .taken, l .inv .3)) (l .inv .1))
 
 add-put : tie.Need-add-put Inv-loop μ-loop
-add-put c = omega (arith, c .before .before .before .before .before .before .before .before .before .before .before .before .before .bin-of2 .ensures .1)
+add-put c = omega (arith, c .before .before .before .before .before .before .before .before .before .bin-of2 .ensures .1)
 
 put-requires-2 : tie.Need-put-requires-2 Inv-loop μ-loop
 put-requires-2 c κs =
+    let l = c .before .before .before .before .before .before .before .before .before .before .before .before .before .before .before .before .before .before .before .before .before .before .loop in
+    let b = c .before .before .before .before .before .before .before .before .before .before .before .before .before .before .before .before .before .box-of .result in
+    let x = c .before .before .before .before .before .before .before .before .before .before .before .before .before .bin-of in
+    let p = c .before .before .put .ensures in
+    let y = c .before .before .before .before .before .before .before .before .before .bin-of2 in
+    (omega (arith, y .ensures .1), lanes-up (l .i + 1) most-triangles _ _ (omega (arith, c .before .before .before .before .before .before .before .before .before .before .before .before .before .before .before .before .before .before .before .before .before .loop-test .taken, l .inv .3)) (one-more (l .boxes) _ (l .counts) _ (x .result) (l .i) b (x .ensures .1) (l .inv .1) (record { boxes-are = p .0; counts-are = p .1 })))
+
+add-put-2 : tie.Need-add-put-2 Inv-loop μ-loop
+add-put-2 c = omega (arith, c .before .before .before .before .before .before .before .before .bin-of3 .ensures .1)
+
+put-requires-3 : tie.Need-put-requires-3 Inv-loop μ-loop
+put-requires-3 c κs =
+    let l = c .before .before .before .before .before .before .before .before .before .before .before .before .before .before .before .before .before .before .before .before .before .before .before .before .before .loop in
+    let b = c .before .before .before .before .before .before .before .before .before .before .before .before .before .before .before .before .before .before .before .before .box-of .result in
+    let x = c .before .before .before .before .before .before .before .before .before .before .before .before .before .before .before .before .bin-of in
+    let p = c .before .before .before .before .before .put .ensures in
+    let y = c .before .before .before .before .before .before .before .before .before .before .before .before .bin-of2 in
+    let q = c .before .before .put2 .ensures in
+    let z = c .before .before .before .before .before .before .before .before .bin-of3 in
+    (omega (arith, z .ensures .1), lanes-up (l .i + 1) most-triangles _ _ (omega (arith, c .before .before .before .before .before .before .before .before .before .before .before .before .before .before .before .before .before .before .before .before .before .before .before .before .loop-test .taken, l .inv .3)) (two-more (l .boxes) _ (l .counts) _ (x .result) (l .i) b (x .ensures .1) (l .inv .1) (record { boxes-are = p .0; counts-are = p .1 }) _ _ (y .result) (y .ensures .1) (record { boxes-are = q .0; counts-are = q .1 })))
+
+add-i : tie.Need-add-i Inv-loop μ-loop
+add-i c = omega (arith, c .before .before .before .before .before .before .before .before .before .before .before .before .before .before .before .before .before .before .before .before .before .before .before .before .before .loop-test .taken, c .before .before .before .before .before .before .before .before .before .before .before .before .before .before .before .before .before .before .before .before .before .before .before .before .before .before .loop .inv .3)
+
+loop-less : tie.Need-loop-less Inv-loop μ-loop
+loop-less c = omega (arith, c .before .before .before .before .before .before .before .before .before .before .before .before .before .before .before .before .before .before .before .before .before .before .before .before .before .loop-test .taken)
+
+loop-again : tie.Need-loop-again Inv-loop μ-loop
+loop-again c =
+    let a = c .before .before .before .before .before .before .before .before .before .before .before .before .before .before .before .before .before .before .before .before .before .before .before .before .before .before .before .before .before .args in
+    let t = c .before .before .before .before .before .before .before .before .before .before .before .before .before .before .before .before .before .before .before .before .before .before .before .corners in
+    let m = c .before .before .before .before .before .before .before .before .before .before .before .before .before .before .before .before .before .before .before .before .before .before .centroid in
+    let u = c .before .before .before .before .before .before .before .before .before .before .before .before .before .before .before .before .before .before .before .before .before .box-of in
+    let h = c .before .before .before .before .before .before .before .before .before .before .before .before .before .before .before .before .before .before .before .before .before .before .before .before .before .loop-test .taken in
     let l = c .before .before .before .before .before .before .before .before .before .before .before .before .before .before .before .before .before .before .before .before .before .before .before .before .before .before .loop in
     let b = c .before .before .before .before .before .before .before .before .before .before .before .before .before .before .before .before .before .before .before .before .before .box-of .result in
     let x = c .before .before .before .before .before .before .before .before .before .before .before .before .before .before .before .before .before .bin-of in
     let p = c .before .before .before .before .before .before .put .ensures in
     let y = c .before .before .before .before .before .before .before .before .before .before .before .before .before .bin-of2 in
-    (omega (arith, y .ensures .1), lanes-up (l .i + 1) most-triangles _ _ (omega (arith, c .before .before .before .before .before .before .before .before .before .before .before .before .before .before .before .before .before .before .before .before .before .before .before .before .before .loop-test .taken, l .inv .3)) (one-more (l .boxes) _ (l .counts) _ (x .result) (l .i) b (x .ensures .1) (l .inv .1) (record { boxes-are = p .0; counts-are = p .1 .0 }) (p .1 .1)))
-
-add-put-2 : tie.Need-add-put-2 Inv-loop μ-loop
-add-put-2 c = omega (arith, c .before .before .before .before .before .before .before .before .before .before .before .before .before .before .before .before .bin-of3 .ensures .1)
-
-put-requires-3 : tie.Need-put-requires-3 Inv-loop μ-loop
-put-requires-3 c κs =
-    let l = c .before .before .before .before .before .before .before .before .before .before .before .before .before .before .before .before .before .before .before .before .before .before .before .before .before .before .before .before .before .before .before .before .before .loop in
-    let b = c .before .before .before .before .before .before .before .before .before .before .before .before .before .before .before .before .before .before .before .before .before .before .before .before .before .before .before .before .box-of .result in
-    let x = c .before .before .before .before .before .before .before .before .before .before .before .before .before .before .before .before .before .before .before .before .before .before .before .before .bin-of in
-    let p = c .before .before .before .before .before .before .before .before .before .before .before .before .before .put .ensures in
-    let y = c .before .before .before .before .before .before .before .before .before .before .before .before .before .before .before .before .before .before .before .before .bin-of2 in
-    let q = c .before .before .before .before .before .before .put2 .ensures in
-    let z = c .before .before .before .before .before .before .before .before .before .before .before .before .before .before .before .before .bin-of3 in
-    (omega (arith, z .ensures .1), lanes-up (l .i + 1) most-triangles _ _ (omega (arith, c .before .before .before .before .before .before .before .before .before .before .before .before .before .before .before .before .before .before .before .before .before .before .before .before .before .before .before .before .before .before .before .before .loop-test .taken, l .inv .3)) (two-more (l .boxes) _ (l .counts) _ (x .result) (l .i) b (x .ensures .1) (l .inv .1) (record { boxes-are = p .0; counts-are = p .1 .0 }) (p .1 .1) _ _ (y .result) (y .ensures .1) (record { boxes-are = q .0; counts-are = q .1 .0 }) (q .1 .1)))
-
-add-i : tie.Need-add-i Inv-loop μ-loop
-add-i c = omega (arith, c .before .before .before .before .before .before .before .before .before .before .before .before .before .before .before .before .before .before .before .before .before .before .before .before .before .before .before .before .before .before .before .before .before .before .before .before .before .loop-test .taken, c .before .before .before .before .before .before .before .before .before .before .before .before .before .before .before .before .before .before .before .before .before .before .before .before .before .before .before .before .before .before .before .before .before .before .before .before .before .before .loop .inv .3)
-
-loop-less : tie.Need-loop-less Inv-loop μ-loop
-loop-less c = omega (arith, c .before .before .before .before .before .before .before .before .before .before .before .before .before .before .before .before .before .before .before .before .before .before .before .before .before .before .before .before .before .before .before .before .before .before .before .before .before .loop-test .taken)
-
-loop-again : tie.Need-loop-again Inv-loop μ-loop
-loop-again c =
-    let a = c .before .before .before .before .before .before .before .before .before .before .before .before .before .before .before .before .before .before .before .before .before .before .before .before .before .before .before .before .before .before .before .before .before .before .before .before .before .before .before .before .before .before .before .args in
-    let t = c .before .before .before .before .before .before .before .before .before .before .before .before .before .before .before .before .before .before .before .before .before .before .before .before .before .before .before .before .before .before .before .before .before .before .before .corners in
-    let m = c .before .before .before .before .before .before .before .before .before .before .before .before .before .before .before .before .before .before .before .before .before .before .before .before .before .before .before .before .before .before .before .before .before .before .centroid in
-    let u = c .before .before .before .before .before .before .before .before .before .before .before .before .before .before .before .before .before .before .before .before .before .before .before .before .before .before .before .before .before .before .before .before .before .box-of in
-    let h = c .before .before .before .before .before .before .before .before .before .before .before .before .before .before .before .before .before .before .before .before .before .before .before .before .before .before .before .before .before .before .before .before .before .before .before .before .before .loop-test .taken in
-    let l = c .before .before .before .before .before .before .before .before .before .before .before .before .before .before .before .before .before .before .before .before .before .before .before .before .before .before .before .before .before .before .before .before .before .before .before .before .before .before .loop in
-    let b = c .before .before .before .before .before .before .before .before .before .before .before .before .before .before .before .before .before .before .before .before .before .before .before .before .before .before .before .before .before .before .before .before .before .box-of .result in
-    let x = c .before .before .before .before .before .before .before .before .before .before .before .before .before .before .before .before .before .before .before .before .before .before .before .before .before .before .before .before .before .bin-of in
-    let p = c .before .before .before .before .before .before .before .before .before .before .before .before .before .before .before .before .before .before .put .ensures in
-    let y = c .before .before .before .before .before .before .before .before .before .before .before .before .before .before .before .before .before .before .before .before .before .before .before .before .before .bin-of2 in
-    let q = c .before .before .before .before .before .before .before .before .before .before .before .put2 .ensures in
-    let z = c .before .before .before .before .before .before .before .before .before .before .before .before .before .before .before .before .before .before .before .before .before .bin-of3 in
-    let r = c .before .before .before .before .put3 .ensures in
+    let q = c .before .before .before .put2 .ensures in
+    let z = c .before .before .before .before .before .before .before .before .before .bin-of3 in
+    let r = c .put3 .ensures in
     let i = getD (a .index .now) (l .i) 0 in (
       omega (arith, h),
-      three-more (l .boxes) _ (l .counts) _ (x .result) (l .i) b (x .ensures .1) (l .inv .1) (record { boxes-are = p .0; counts-are = p .1 .0 }) (p .1 .1) _ _ (y .result) (y .ensures .1) (record { boxes-are = q .0; counts-are = q .1 .0 }) (q .1 .1) _ _ (z .result) (z .ensures .1) (record { boxes-are = r .0; counts-are = r .1 .0 }) (r .1 .1),
-      ahead-again (l .boxes) _ (l .counts) _ (x .result) (l .i) b (x .ensures .1) (l .inv .1) (record { boxes-are = p .0; counts-are = p .1 .0 }) (p .1 .1) _ _ (y .result) (y .ensures .1) (record { boxes-are = q .0; counts-are = q .1 .0 }) (q .1 .1) _ _ (z .result) (z .ensures .1) (record { boxes-are = r .0; counts-are = r .1 .0 }) (a .triangles .now) (a .min) (a .scale) (a .index .now) (l .i) (m .result) h
+      three-more (l .boxes) _ (l .counts) _ (x .result) (l .i) b (x .ensures .1) (l .inv .1) (record { boxes-are = p .0; counts-are = p .1 }) _ _ (y .result) (y .ensures .1) (record { boxes-are = q .0; counts-are = q .1 }) _ _ (z .result) (z .ensures .1) (record { boxes-are = r .0; counts-are = r .1 }),
+      ahead-again (l .boxes) _ (l .counts) _ (x .result) (l .i) b (x .ensures .1) (l .inv .1) (record { boxes-are = p .0; counts-are = p .1 }) _ _ (y .result) (y .ensures .1) (record { boxes-are = q .0; counts-are = q .1 }) _ _ (z .result) (z .ensures .1) (record { boxes-are = r .0; counts-are = r .1 }) (a .triangles .now) (a .min) (a .scale) (a .index .now) (l .i) (m .result) h
           (centroid-by (triangleAt (a .triangles .now) i) (t .result .v0) (t .result .v1) (t .result .v2) (m .result) (t .ensures .0) (t .ensures .1) (t .ensures .2) (m .ensures))
           (bounds-by (a .triangles .now) i (t .result .v0) (t .result .v1) (t .result .v2) b (t .ensures .0) (t .ensures .1) (t .ensures .2) (u .ensures))
           (x .ensures .0) (y .ensures .0) (z .ensures .0) (l .inv .2),
       l .inv .3,
-      l .inv .4,
-      l .inv .5,
     )
-
-same-length : tie.Need-same-length Inv-loop μ-loop
-same-length c = let l = c .before .loop in omega (arith, l .inv .1 .boxes-long, l .inv .4)
-
-same-length-2 : tie.Need-same-length-2 Inv-loop μ-loop
-same-length-2 c = let l = c .before .loop in omega (arith, l .inv .1 .counts-long, l .inv .5)
 
 returns : tie.Need-returns Inv-loop μ-loop
 returns c =
-    let a = c .before .before .before .before .before .before .args in
+    let a = c .before .before .before .before .args in
     let l = c .before .loop in
     (lanes-up (l .i) most-triangles (l .boxes) (l .counts) (omega (arith, l .inv .0, l .inv .3)) (l .inv .1), ahead-end (a .triangles .now) (a .min) (a .scale) (a .index .now) (l .i) (l .boxes) (l .counts) (c .loop-test .left) (l .inv .2))
 
@@ -152,11 +135,8 @@ fill-spec =
     centroid-requires
     box-of-requires
     bin-of-requires
-    cast-x
     bin-of-requires-2
-    cast-y
     bin-of-requires-3
-    cast-z
     put-requires
     add-put
     put-requires-2
@@ -165,6 +145,4 @@ fill-spec =
     add-i
     loop-less
     loop-again
-    same-length
-    same-length-2
     returns)

@@ -2,7 +2,6 @@
 use mathlib.Core.Path.{_≡_, ap, subst}
 use Prim.Native.Nat.{ℕ, _-_, _≤_}
 use native.Mathlib.Omega.{arith}
-use lib.ListN.{length, length-set}
 use lib.Ieee.{neg}
 use Rattle.float.specs.Number.{infinity}
 use Rattle.builder.proofs.Lanes.{Emptied, emptied-start, emptied-next, emptied-end}
@@ -11,7 +10,7 @@ use Rattle.builder.proofs.bins.vacate.Statement.{statement}
 use Rattle.builder.proofs.bins.vacate.Tie as tie
 
 abbrev Inv-loop : tie.InvT-loop
-Inv-loop boxes₀ far k₀ boxes k = (k ≤ 48) × Emptied boxes k × (far ≡ neg infinity) × (length boxes₀ ≡ 288)
+Inv-loop boxes₀ far k₀ boxes k = (k ≤ 48) × Emptied boxes k × (far ≡ neg infinity)
 
 abbrev μ-loop : tie.MeasureT-loop
 μ-loop boxes₀ far k₀ boxes k = 48 - k
@@ -20,7 +19,7 @@ infinity-requires : tie.Need-infinity-requires Inv-loop μ-loop
 infinity-requires c κs = search needs
 
 loop-holds : tie.Need-loop-holds Inv-loop μ-loop
-loop-holds c = let e = emptied-start _ (c .before .before .pre) in (search needs, e, ap neg (c .infinity .ensures), e .long)
+loop-holds c = let e = emptied-start _ (c .before .pre) in (search needs, e, ap neg (c .infinity .ensures))
 
 mul-boxes : tie.Need-mul-boxes Inv-loop μ-loop
 mul-boxes c = search needs
@@ -31,8 +30,8 @@ add-boxes c = search needs
 mul-boxes-2 : tie.Need-mul-boxes-2 Inv-loop μ-loop
 mul-boxes-2 c = search needs
 
-slice-write-boxes : tie.Need-slice-write-boxes Inv-loop μ-loop
-slice-write-boxes c = omega (arith, c .loop-test .taken, c .before .loop .inv .1 .long)
+element-write-boxes : tie.Need-element-write-boxes Inv-loop μ-loop
+element-write-boxes c = omega (arith, c .loop-test .taken, c .before .loop .inv .1 .long)
 
 mul-boxes-3 : tie.Need-mul-boxes-3 Inv-loop μ-loop
 mul-boxes-3 c = search needs
@@ -43,8 +42,8 @@ add-boxes-2 c = search needs
 mul-boxes-4 : tie.Need-mul-boxes-4 Inv-loop μ-loop
 mul-boxes-4 c = search needs
 
-slice-write-boxes-2 : tie.Need-slice-write-boxes-2 Inv-loop μ-loop
-slice-write-boxes-2 c = simp length-set (omega (arith, c .loop-test .taken, c .before .loop .inv .1 .long))
+element-write-boxes-2 : tie.Need-element-write-boxes-2 Inv-loop μ-loop
+element-write-boxes-2 c = omega (arith, c .loop-test .taken, c .before .loop .inv .1 .long)
 
 mul-boxes-5 : tie.Need-mul-boxes-5 Inv-loop μ-loop
 mul-boxes-5 c = search needs
@@ -55,8 +54,8 @@ add-boxes-3 c = search needs
 mul-boxes-6 : tie.Need-mul-boxes-6 Inv-loop μ-loop
 mul-boxes-6 c = search needs
 
-slice-write-boxes-3 : tie.Need-slice-write-boxes-3 Inv-loop μ-loop
-slice-write-boxes-3 c = simp length-set (omega (arith, c .loop-test .taken, c .before .loop .inv .1 .long))
+element-write-boxes-3 : tie.Need-element-write-boxes-3 Inv-loop μ-loop
+element-write-boxes-3 c = omega (arith, c .loop-test .taken, c .before .loop .inv .1 .long)
 
 add-k : tie.Need-add-k Inv-loop μ-loop
 add-k c = search needs
@@ -67,10 +66,7 @@ loop-less c = search needs
 loop-again : tie.Need-loop-again Inv-loop μ-loop
 loop-again c =
     let l = c .before .loop in
-    (omega (arith, c .loop-test .taken), emptied-next (l .boxes) _ (l .k) (l .inv .2) (c .loop-test .taken) (l .inv .1), l .inv .2, l .inv .3)
-
-same-length : tie.Need-same-length Inv-loop μ-loop
-same-length c = omega (arith, c .before .loop .inv .1 .long, c .before .loop .inv .3)
+    (omega (arith, c .loop-test .taken), emptied-next (l .boxes) _ (l .k) (l .inv .2) (c .loop-test .taken) (l .inv .1), l .inv .2)
 
 returns : tie.Need-returns Inv-loop μ-loop
 returns c =
@@ -89,17 +85,16 @@ vacate-spec =
     mul-boxes
     add-boxes
     mul-boxes-2
-    slice-write-boxes
+    element-write-boxes
     mul-boxes-3
     add-boxes-2
     mul-boxes-4
-    slice-write-boxes-2
+    element-write-boxes-2
     mul-boxes-5
     add-boxes-3
     mul-boxes-6
-    slice-write-boxes-3
+    element-write-boxes-3
     add-k
     loop-less
     loop-again
-    same-length
     returns)

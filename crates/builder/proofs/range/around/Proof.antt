@@ -5,7 +5,8 @@ use native.Mathlib.Omega.{arith}
 use lib.ListN.{length, getD, drop}
 use Rattle.triangle.specs.Mesh.{triangleAt}
 use Rattle.builder.specs.Range.{boxFrom, centroidBox, centroidsFrom, nodeBox}
-use Rattle.builder.specs.Lanes.{Clear}
+use Rattle.aabb.specs.Bounds.{Clear}
+use Rattle.aabb.proofs.Running.{clear-as, empty-clear, grown-by, union-by}
 use Rattle.builder.proofs.Passes.{bounds-by, box-again, box-end, box-start, centroid-by, centroids-again, centroids-end, centroids-start}
 use Rattle.lent.proofs.Permutation.{occ-at}
 use borrow.Author.Needs.{needs}
@@ -18,16 +19,16 @@ Inv-loop triangles index bounds₀ centroids₀ i₀ bounds centroids i = (boxFr
 abbrev μ-loop : tie.MeasureT-loop
 μ-loop triangles index bounds₀ centroids₀ i₀ bounds centroids i = length index - i
 
-nothing-requires : tie.Need-nothing-requires Inv-loop μ-loop
-nothing-requires c κs = search needs
+empty-requires : tie.Need-empty-requires Inv-loop μ-loop
+empty-requires c κs = search needs
 
-nothing-requires-2 : tie.Need-nothing-requires-2 Inv-loop μ-loop
-nothing-requires-2 c κs = search needs
+empty-requires-2 : tie.Need-empty-requires-2 Inv-loop μ-loop
+empty-requires-2 c κs = search needs
 
 loop-holds : tie.Need-loop-holds Inv-loop μ-loop
 loop-holds c =
     let a = c .before .before .before .before .args in
-    (box-start (a .triangles .now) (a .index .now) _ (c .before .nothing .ensures .0), centroids-start (a .triangles .now) (a .index .now) _ (c .nothing2 .ensures .0), c .before .nothing .ensures .1, c .nothing2 .ensures .1)
+    (box-start (a .triangles .now) (a .index .now) _ (c .before .empty .ensures), centroids-start (a .triangles .now) (a .index .now) _ (c .empty2 .ensures), clear-as _ _ (c .before .empty .ensures) empty-clear, clear-as _ _ (c .empty2 .ensures) empty-clear)
 
 mul-corners : tie.Need-mul-corners Inv-loop μ-loop
 mul-corners c = search needs
@@ -44,13 +45,13 @@ box-of-requires : tie.Need-box-of-requires Inv-loop μ-loop
 box-of-requires c κs = search needs
 
 joined-requires : tie.Need-joined-requires Inv-loop μ-loop
-joined-requires c κs = c .before .before .before .before .loop .inv .2
+joined-requires c κs = search needs
 
 centroid-requires : tie.Need-centroid-requires Inv-loop μ-loop
 centroid-requires c κs = search needs
 
-grown-requires : tie.Need-grown-requires Inv-loop μ-loop
-grown-requires c κs = c .before .before .before .before .before .before .loop .inv .3
+widened-requires : tie.Need-widened-requires Inv-loop μ-loop
+widened-requires c κs = search needs
 
 add-i : tie.Need-add-i Inv-loop μ-loop
 add-i c = omega (arith, c .before .before .before .before .before .before .loop-test .taken, c .before .before .before .before .before .before .before .before .before .before .before .before .pre .1)
@@ -64,11 +65,13 @@ loop-again c =
     let l = c .before .before .before .before .before .before .before .loop in
     let h = c .before .before .before .before .before .before .loop-test .taken in
     let v = c .before .before .before .before .corners in
-    let k = getD (a .index .now) (l .i) 0 in (
-      box-again (a .triangles .now) (a .index .now) (l .i) h (l .bounds) _ _ _ (bounds-by (a .triangles .now) k _ _ _ _ (v .ensures .0) (v .ensures .1) (v .ensures .2) (c .before .before .before .box-of .ensures)) (c .before .before .joined .ensures .0) (l .inv .0),
-      centroids-again (a .triangles .now) (a .index .now) (l .i) h (l .centroids) _ _ _ (centroid-by (triangleAt (a .triangles .now) k) _ _ _ _ (v .ensures .0) (v .ensures .1) (v .ensures .2) (c .before .centroid .ensures)) (c .grown .ensures .0) (l .inv .1),
-      c .before .before .joined .ensures .1,
-      c .grown .ensures .1,
+    let k = getD (a .index .now) (l .i) 0 in
+    let b = union-by (l .bounds) _ _ (l .inv .2) (c .before .before .joined .ensures) in
+    let p = grown-by (l .centroids) _ _ (l .inv .3) (c .widened .ensures) in (
+      box-again (a .triangles .now) (a .index .now) (l .i) h (l .bounds) _ _ _ (bounds-by (a .triangles .now) k _ _ _ _ (v .ensures .0) (v .ensures .1) (v .ensures .2) (c .before .before .before .box-of .ensures)) (b .0) (l .inv .0),
+      centroids-again (a .triangles .now) (a .index .now) (l .i) h (l .centroids) _ _ _ (centroid-by (triangleAt (a .triangles .now) k) _ _ _ _ (v .ensures .0) (v .ensures .1) (v .ensures .2) (c .before .centroid .ensures)) (p .0) (l .inv .1),
+      b .1,
+      p .1,
     )
 
 returns : tie.Need-returns Inv-loop μ-loop
@@ -85,8 +88,8 @@ around-spec =
     (tie.spec
     Inv-loop
     μ-loop
-    nothing-requires
-    nothing-requires-2
+    empty-requires
+    empty-requires-2
     loop-holds
     mul-corners
     shared-slice-read-corners
@@ -94,7 +97,7 @@ around-spec =
     box-of-requires
     joined-requires
     centroid-requires
-    grown-requires
+    widened-requires
     add-i
     loop-less
     loop-again

@@ -46,66 +46,39 @@ scale-requires-3 c κs = search needs
 infinity-requires : tie.Need-infinity-requires
 infinity-requires c κs = search needs
 
-slice-aggregate-vacate : tie.Need-slice-aggregate-vacate
-slice-aggregate-vacate c = refl
-
 vacate-requires : tie.Need-vacate-requires
 vacate-requires c κs = ap (λ (z : Float). replicate 288 z) (c .before .infinity .ensures)
 
-slice-aggregate-fill : tie.Need-slice-aggregate-fill
-slice-aggregate-fill c = sym (c .before .before .vacate .ensures .lanes .boxes-long)
-
-slice-aggregate-fill-2 : tie.Need-slice-aggregate-fill-2
-slice-aggregate-fill-2 c = refl
-
 fill-requires : tie.Need-fill-requires
-fill-requires c κs = let p = c .before .before .before .before .before .before .before .before .before .before .before .before .before .before .before .before .before .pre in (p .0, (p .1, c .before .before .before .vacate .ensures))
-
-slice-aggregate-try-axis : tie.Need-slice-aggregate-try-axis
-slice-aggregate-try-axis c = sym (c .before .before .before .fill .ensures .0 .boxes-long)
-
-slice-aggregate-try-axis-2 : tie.Need-slice-aggregate-try-axis-2
-slice-aggregate-try-axis-2 c = sym (c .before .before .before .before .fill .ensures .0 .counts-long)
+fill-requires c κs = let p = c .before .before .before .before .before .before .before .before .before .before .before .before .before .before .before .before .pre in (p .0, (p .1, c .before .before .vacate .ensures))
 
 try-axis-requires : tie.Need-try-axis-requires
-try-axis-requires c κs = (omega arith, c .before .before .before .before .fill .ensures .0)
-
-slice-aggregate-try-axis-3 : tie.Need-slice-aggregate-try-axis-3
-slice-aggregate-try-axis-3 c = sym (c .before .before .before .before .before .before .fill .ensures .0 .boxes-long)
-
-slice-aggregate-try-axis-4 : tie.Need-slice-aggregate-try-axis-4
-slice-aggregate-try-axis-4 c = sym (c .before .before .before .before .before .before .before .fill .ensures .0 .counts-long)
+try-axis-requires c κs = (omega arith, c .before .before .fill .ensures .0)
 
 try-axis-requires-2 : tie.Need-try-axis-requires-2
-try-axis-requires-2 c κs = (omega arith, c .before .before .before .before .before .before .before .fill .ensures .0)
-
-slice-aggregate-try-axis-5 : tie.Need-slice-aggregate-try-axis-5
-slice-aggregate-try-axis-5 c = sym (c .before .before .before .before .before .before .before .before .before .fill .ensures .0 .boxes-long)
-
-slice-aggregate-try-axis-6 : tie.Need-slice-aggregate-try-axis-6
-slice-aggregate-try-axis-6 c = sym (c .before .before .before .before .before .before .before .before .before .before .fill .ensures .0 .counts-long)
+try-axis-requires-2 c κs = (omega arith, c .before .before .before .before .before .fill .ensures .0)
 
 try-axis-requires-3 : tie.Need-try-axis-requires-3
-try-axis-requires-3 c κs = (omega arith, c .before .before .before .before .before .before .before .before .before .before .fill .ensures .0)
+try-axis-requires-3 c κs = (omega arith, c .before .before .before .before .before .before .before .before .fill .ensures .0)
 
 -- the best of the three axes is the definition's
-best-is : (c : tie.After-struct-known) → let a = c .before .before .before .before .before .before .before .before .before .before .before .before .before .before .before .before .before .before .before .before .before .before .before .before .before .before .before .before .before .before .args in chosen (mul binary64 (whole (length (a .index .now))) one-and-half) (c .before .try-axis3 .result) ≡ bestSplit (a .triangles .now) (a .index .now) (a .hull .bounds) (a .hull .centroids)
+best-is : (c : tie.After-struct-known) → let a = c .before .before .before .before .before .before .before .before .before .before .before .before .before .before .before .before .before .before .before .before .before .before .before .before .before .before .before .args in chosen (mul binary64 (whole (length (a .index .now))) one-and-half) (c .before .try-axis3 .result) ≡ bestSplit (a .triangles .now) (a .index .now) (a .hull .bounds) (a .hull .centroids)
 best-is c =
-    let a = c .before .before .before .before .before .before .before .before .before .before .before .before .before .before .before .before .before .before .before .before .before .before .before .before .before .before .before .before .before .before .args in
+    let a = c .before .before .before .before .before .before .before .before .before .before .before .before .before .before .before .before .before .before .before .before .before .before .before .before .before .before .before .args in
     let m = a .triangles .now in
     let ids = a .index .now in
     let q = a .hull .centroids in
-    let area = c .before .before .before .before .before .before .before .before .before .before .before .before .before .before .before .before .before .before .before .before .before .before .before .before .before .before .surface-area in
-    let e = c .before .before .before .before .before .before .before .before .before .before .before .before .before .before .before .before .before .before .before .before .before .before .extent in
-    let sx = c .before .before .before .before .before .before .before .before .before .before .before .before .before .before .before .before .before .before .before .before .before .scale in
-    let sy = c .before .before .before .before .before .before .before .before .before .before .before .before .before .before .before .before .before .before .before .before .scale2 in
-    let sz = c .before .before .before .before .before .before .before .before .before .before .before .before .before .before .before .before .before .before .before .scale3 in
-    let f = c .before .before .before .before .before .before .before .before .before .before .before .before .fill in
+    let area = c .before .before .before .before .before .before .before .before .before .before .before .before .before .before .before .before .before .before .before .before .before .before .before .surface-area in
+    let e = c .before .before .before .before .before .before .before .before .before .before .before .before .before .before .before .before .before .before .before .extent in
+    let sx = c .before .before .before .before .before .before .before .before .before .before .before .before .before .before .before .before .before .before .scale in
+    let sy = c .before .before .before .before .before .before .before .before .before .before .before .before .before .before .before .before .before .scale2 in
+    let sz = c .before .before .before .before .before .before .before .before .before .before .before .before .before .before .before .before .scale3 in
+    let f = c .before .before .before .before .before .before .before .before .before .before .fill in
     let x = c .before .before .before .before .before .before .before .try-axis in
     let y = c .before .before .before .before .try-axis2 in
     let z = c .before .try-axis3 in
     let go = fill-on q (e .result) (vec (sx .result) (sy .result) (sz .result)) (e .ensures) (sx .ensures) (sy .ensures) (sz .ensures) m ids in
-    choose-best m ids (a .hull .bounds) q (area .result) (c .before .before .before .before .before .before .before .before .before .before .before .before .before .before .before .before .before .before .before .before .before .before .before .before .before .before .before .if1 .left) (area .ensures) (x .result) (y .result) (z .result) (c .before .before .before .before .before .before .before .before .before .before .before .before .before .before .before .before .before .before .before .before .before .before .before .before .before .if2 .left) (x .ensures m ids (f .ensures .1 0 (omega arith) ∙ go 0 (omega arith))) (y .ensures m ids (f .ensures .1 1 (omega arith) ∙ go 1 (omega arith))) (z .ensures m ids (f .ensures .1 2 (omega arith) ∙ go 2 (omega arith)))
+    choose-best m ids (a .hull .bounds) q (area .result) (c .before .before .before .before .before .before .before .before .before .before .before .before .before .before .before .before .before .before .before .before .before .before .before .before .if1 .left) (area .ensures) (x .result) (y .result) (z .result) (c .before .before .before .before .before .before .before .before .before .before .before .before .before .before .before .before .before .before .before .before .before .before .if2 .left) (x .ensures m ids (f .ensures .1 0 (omega arith) ∙ go 0 (omega arith))) (y .ensures m ids (f .ensures .1 1 (omega arith) ∙ go 1 (omega arith))) (z .ensures m ids (f .ensures .1 2 (omega arith) ∙ go 2 (omega arith)))
 
 returns-3 : tie.Need-returns-3
 returns-3 c = chosen-split _ (c .before .before .try-axis3 .result) (c .if3 .taken) ∙ best-is (c .before)
@@ -127,19 +100,10 @@ find-best-split-spec =
     scale-requires-2
     scale-requires-3
     infinity-requires
-    slice-aggregate-vacate
     vacate-requires
-    slice-aggregate-fill
-    slice-aggregate-fill-2
     fill-requires
-    slice-aggregate-try-axis
-    slice-aggregate-try-axis-2
     try-axis-requires
-    slice-aggregate-try-axis-3
-    slice-aggregate-try-axis-4
     try-axis-requires-2
-    slice-aggregate-try-axis-5
-    slice-aggregate-try-axis-6
     try-axis-requires-3
     returns-3
     returns-4)

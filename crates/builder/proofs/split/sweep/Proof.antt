@@ -6,10 +6,11 @@ use native.Mathlib.Omega.{arith}
 use lib.ListN.{length, drop, length-replicate, length-set}
 use lib.Ieee.{Float}
 use Rattle.float.specs.Number.{nought}
+use Rattle.aabb.specs.Bounds.{Clear}
 use Rattle.builder.specs.declared.bins.Bin.{Bin}
 use Rattle.builder.specs.Bins.{noBin, suffixOf}
 use Rattle.builder.specs.Choice.{sweepFrom}
-use Rattle.builder.specs.Lanes.{Clear, lane, Lanes}
+use Rattle.builder.specs.Lanes.{lane, Lanes}
 use Rattle.lent.specs.Limits.{most-triangles}
 use Rattle.builder.proofs.Choosing.{sweep-end, sweep-next}
 use Rattle.builder.proofs.Sweeping.{Sides, at-number, join-number, lane-bin, lane-length, none-number, sides-most, sides-next, sides-start, suffix-next, suffix-start}
@@ -34,15 +35,15 @@ abbrev μ-loop2 : tie.MeasureT-loop2
 μ-loop2 boxes counts axis lo width parent from numbers weights k left₀ most₀ i₀ left most i = 15 - i
 
 mul-from : tie.Need-mul-from Inv-loop μ-loop Inv-loop2 μ-loop2
-mul-from c = omega (arith, c .before .before .pre .0)
+mul-from c = omega (arith, c .pre .0)
 
 none-requires : tie.Need-none-requires Inv-loop μ-loop Inv-loop2 μ-loop2
 none-requires c κs = search needs
 
 loop-holds : tie.Need-loop-holds Inv-loop μ-loop Inv-loop2 μ-loop2
 loop-holds c =
-    let a = c .before .before .before .args in
-    let p = c .before .before .before .pre in
+    let a = c .before .args in
+    let p = c .before .pre in
     let bs = lane (a .boxes .now) (a .counts .now) (a .axis * 16) 16 in
     ((p .0, refl, p .1, length-replicate {A = ℕ} 16 0, length-replicate {A = Float} 16 nought), omega arith, omega (arith, none-number (c .none .result) (c .none .ensures .0)), c .none .ensures .1, suffix-start bs (c .none .result) (c .none .ensures .0) (lane-length (a .boxes .now) (a .counts .now) (a .axis * 16) 16), sides-start bs _ _)
 
@@ -53,13 +54,11 @@ add-bin-at : tie.Need-add-bin-at Inv-loop μ-loop Inv-loop2 μ-loop2
 add-bin-at c = let v = c .before .loop .inv in omega (arith, v .0 .0, v .0 .1, v .1)
 
 bin-at-requires : tie.Need-bin-at-requires Inv-loop μ-loop Inv-loop2 μ-loop2
-bin-at-requires c κs =
-    let v = c .before .loop .inv in
-    (omega (arith, v .0 .0, v .0 .1, v .1, v .0 .2 .boxes-long, c .loop-test .taken), omega (arith, v .0 .0, v .0 .1, v .1, v .0 .2 .counts-long, c .loop-test .taken))
+bin-at-requires c κs = let v = c .before .loop .inv in (omega (arith, v .0 .0, v .0 .1, v .1, c .loop-test .taken), v .0 .2 .counts-long)
 
 joined-requires : tie.Need-joined-requires Inv-loop μ-loop Inv-loop2 μ-loop2
 joined-requires c κs =
-    let a = c .before .before .before .before .before .before .args in
+    let a = c .before .before .before .before .args in
     let l = c .before .before .loop in
     let v = l .inv in
     let place = a .axis * 16 + (l .k - 1) in
@@ -85,7 +84,7 @@ loop-less c = omega (arith, c .before .before .before .loop-test .taken)
 
 loop-again : tie.Need-loop-again Inv-loop μ-loop Inv-loop2 μ-loop2
 loop-again c =
-    let a = c .before .before .before .before .before .before .before .before .args in
+    let a = c .before .before .before .before .before .before .args in
     let l = c .before .before .before .before .loop in
     let v = l .inv in
     let t = c .before .before .before .loop-test .taken in
@@ -101,7 +100,7 @@ none-requires-2 c κs = search needs
 
 loop2-holds : tie.Need-loop2-holds Inv-loop μ-loop Inv-loop2 μ-loop2
 loop2-holds c =
-    let a = c .before .before .before .before .before .before .args in
+    let a = c .before .before .before .before .args in
     let l = c .before .before .loop in
     let v = l .inv in
     let bs = lane (a .boxes .now) (a .counts .now) (a .axis * 16) 16 in
@@ -114,13 +113,11 @@ add-bin-at-2 : tie.Need-add-bin-at-2 Inv-loop μ-loop Inv-loop2 μ-loop2
 add-bin-at-2 c = let v = c .before .loop2 .inv in omega (arith, v .0 .0, v .0 .1, v .1)
 
 bin-at-requires-2 : tie.Need-bin-at-requires-2 Inv-loop μ-loop Inv-loop2 μ-loop2
-bin-at-requires-2 c κs =
-    let v = c .before .loop2 .inv in
-    (omega (arith, v .0 .0, v .0 .1, v .0 .2 .boxes-long, c .loop2-test .taken), omega (arith, v .0 .0, v .0 .1, v .0 .2 .counts-long, c .loop2-test .taken))
+bin-at-requires-2 c κs = let v = c .before .loop2 .inv in (omega (arith, v .0 .0, v .0 .1, c .loop2-test .taken), v .0 .2 .counts-long)
 
 joined-requires-2 : tie.Need-joined-requires-2 Inv-loop μ-loop Inv-loop2 μ-loop2
 joined-requires-2 c κs =
-    let a = c .before .before .before .before .before .before .before .before .before .args in
+    let a = c .before .before .before .before .before .before .before .args in
     let l = c .before .before .loop2 in
     let v = l .inv in
     let place = a .axis * 16 + l .i in
@@ -155,7 +152,7 @@ loop2-less c = omega (arith, c .before .before .before .loop2-test .taken)
 
 loop2-again : tie.Need-loop2-again Inv-loop μ-loop Inv-loop2 μ-loop2
 loop2-again c =
-    let a = c .before .before .before .before .before .before .before .before .before .before .before .args in
+    let a = c .before .before .before .before .before .before .before .before .before .args in
     let l = c .before .before .before .before .loop2 in
     let v = l .inv in
     let t = c .before .before .before .loop2-test .taken in
@@ -166,7 +163,7 @@ loop2-again c =
 
 returns : tie.Need-returns Inv-loop μ-loop Inv-loop2 μ-loop2
 returns c =
-    let a = c .before .before .before .before .before .before .before .before .args in
+    let a = c .before .before .before .before .before .before .args in
     let l = c .before .loop2 in
     sym (sweep-end (a .axis) (a .min) (a .width) (a .parent) (l .most) (l .left) (lane (a .boxes .now) (a .counts .now) (a .axis * 16) 16) (l .i) (lane-length (a .boxes .now) (a .counts .now) (a .axis * 16) 16) (l .inv .1) (c .loop2-test .left)) ∙ l .inv .4
 

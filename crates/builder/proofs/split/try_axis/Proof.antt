@@ -14,18 +14,18 @@ along-requires-2 c κs = search needs
 
 returns : tie.Need-returns
 returns c =
-    let a = c .before .before .before .before .before .args in
+    let a = c .before .before .before .args in
     λ mesh range h. try-skip mesh range (a .centroids) (a .axis) (a .parent) (a .best) (c .before .before .along .result) (c .before .along2 .result) (c .before .before .along .ensures) (c .before .along2 .ensures) (c .if1 .taken)
 
 scale-requires : tie.Need-scale-requires
 scale-requires c κs = search needs
 
 sweep-requires : tie.Need-sweep-requires
-sweep-requires c κs = c .before .before .before .before .before .before .pre
+sweep-requires c κs = c .before .before .before .before .pre
 
 returns-2 : tie.Need-returns-2
 returns-2 c =
-    let a = c .before .before .before .before .before .before .before .args in
+    let a = c .before .before .before .before .before .args in
     let lo = c .before .before .before .before .along in
     let hi = c .before .before .before .along2 in
     λ mesh range h. try-go mesh range (a .centroids) (a .axis) (a .parent) (a .best) (lo .result) (hi .result) (lo .ensures) (hi .ensures) (lane (a .boxes .now) (a .counts .now) (a .axis * 16) 16) (c .before .scale .result) (c .sweep .result) (c .before .before .if1 .left) h (c .before .scale .ensures) (c .sweep .ensures)

@@ -1,5 +1,6 @@
--- The tests are those of the definition, in its order. Assumes nothing.
-use Rattle.walk.proofs.Judged.{left-beyond, right-beyond, full, both-put}
+-- The tests are those of the definition, in its order: right is left + 1, so one test tells of both. Assumes nothing.
+use native.Mathlib.Omega.{arith}
+use Rattle.walk.proofs.Judged.{beyond, left-there, full, both-put}
 use borrow.Author.Needs.{needs}
 use Rattle.walk.proofs.step.open_internal.Statement.{statement}
 use Rattle.walk.proofs.step.open_internal.Tie as tie
@@ -11,36 +12,27 @@ right-requires : tie.Need-right-requires
 right-requires c κs = search needs
 
 returns : tie.Need-returns
-returns c = let k = c .before in left-beyond _ _ _ _ _ (k .before .left .result) (k .right .result) (k .before .left .ensures) (k .right .ensures) (c .if1 .taken)
+returns c = let k = c .before in beyond _ _ _ _ (k .before .left .result) (k .right .result) (k .before .left .ensures) (k .right .ensures) (c .if1 .taken)
+
+add-if2 : tie.Need-add-if2
+add-if2 c = search needs
 
 returns-2 : tie.Need-returns-2
-returns-2 c = let k = c .before .before in right-beyond _ _ _ _ _ (k .before .left .result) (k .right .result) (k .before .left .ensures) (k .right .ensures) (c .before .if1 .left) (c .if2 .taken)
+returns-2 c = let k = c .before .before in full _ _ _ _ (k .before .left .result) (k .right .result) (k .before .left .ensures) (k .right .ensures) (c .before .if1 .left) (c .if2 .taken)
 
-add-if3 : tie.Need-add-if3
-add-if3 c = search needs
+cast-t11 : tie.Need-cast-t11
+cast-t11 c =
+    let k = c .before .before in
+    let a = k .before .before .args in
+    omega (arith, left-there (a .nodes) (a .i) (a .x) (a .besides) (k .before .left .result) (k .right .result) (k .before .left .ensures) (k .right .ensures) (c .before .if1 .left))
+
+cast-t12 : tie.Need-cast-t12
+cast-t12 c = search needs
 
 returns-3 : tie.Need-returns-3
-returns-3 c = let k = c .before .before .before in full _ _ _ _ _ (k .before .left .result) (k .right .result) (k .before .left .ensures) (k .right .ensures) (c .before .before .if1 .left) (c .before .if2 .left) (c .if3 .taken)
-
-cast-t13 : tie.Need-cast-t13
-cast-t13 c = search needs
-
-cast-t14 : tie.Need-cast-t14
-cast-t14 c = search needs
-
-returns-4 : tie.Need-returns-4
-returns-4 c = let k = c .before .before .before in both-put _ _ _ _ _ (k .before .left .result) (k .right .result) (k .before .left .ensures) (k .right .ensures) (c .before .before .if1 .left) (c .before .if2 .left) (c .if3 .left)
+returns-3 c = let k = c .before .before in both-put _ _ _ _ (k .before .left .result) (k .right .result) (k .before .left .ensures) (k .right .ensures) (c .before .if1 .left) (c .if2 .left)
 
 pub open-internal-spec : {M : Type 1} → statement M
 open-internal-spec =
     tie.close
-    (tie.spec
-    left-requires
-    right-requires
-    returns
-    returns-2
-    add-if3
-    returns-3
-    cast-t13
-    cast-t14
-    returns-4)
+    (tie.spec left-requires right-requires returns add-if2 returns-2 cast-t11 cast-t12 returns-3)

@@ -1,38 +1,50 @@
--- The tests are those of the definition, in its order. Assumes nothing.
-use mathlib.Core.Path.{sym, _∙_}
-use Rattle.float.proofs.Total.{and-go, and-no}
-use Rattle.aabb.specs.Bounds.{bounded}
+-- Each min at most its max, then the lowest min and the highest max against the limit, tell the same. Assumes nothing.
 use borrow.Author.Needs.{needs}
+use borrow.Author.Tests.{not-true, not-false}
+use Rattle.aabb.proofs.Limits.{out-of-order, too-low, high-enough}
 use Rattle.aabb.proofs.bounds.Aabb.bounded.Statement.{statement}
 use Rattle.aabb.proofs.bounds.Aabb.bounded.Tie as tie
-
-within-requires : tie.Need-within-requires
-within-requires c κs = search needs
-
-within-requires-2 : tie.Need-within-requires-2
-within-requires-2 c κs = search needs
 
 at-most-requires : tie.Need-at-most-requires
 at-most-requires c κs = search needs
 
 returns : tie.Need-returns
-unfolding bounded
-returns c =
-    let second = c .before in
-    let first = second .before .before in
-    and-go _ _ _ (sym (first .before .within .ensures) ∙ first .if1 .taken) (and-go _ _ _ (sym (second .before .within2 .ensures) ∙ second .if2 .taken) (c .at-most .ensures))
+returns c = out-of-order _ _ (c .before .at-most .ensures) (not-true _ (c .if1 .taken))
+
+lower-requires : tie.Need-lower-requires
+lower-requires c κs = search needs
+
+lower-requires-2 : tie.Need-lower-requires-2
+lower-requires-2 c κs = search needs
 
 returns-2 : tie.Need-returns-2
-unfolding bounded
 returns-2 c =
-    let first = c .before .before in
-    and-go _ _ _ (sym (first .before .within .ensures) ∙ first .if1 .taken) (and-no _ _ (sym (c .before .within2 .ensures) ∙ c .if2 .left))
+    let l = c .before in
+    let o = l .before .before in
+    too-low _ _ (o .before .at-most .ensures) (not-false _ (o .if1 .left)) _ _ (l .before .lower .ensures) (l .lower2 .ensures) (not-true _ (c .if2 .taken))
+
+higher-requires : tie.Need-higher-requires
+higher-requires c κs = search needs
+
+higher-requires-2 : tie.Need-higher-requires-2
+higher-requires-2 c κs = search needs
 
 returns-3 : tie.Need-returns-3
-unfolding bounded
-returns-3 c = and-no _ _ (sym (c .before .within .ensures) ∙ c .if1 .left)
+returns-3 c =
+    let n = c .before .before in
+    let l = n .before in
+    let o = l .before .before in
+    high-enough _ _ (o .before .at-most .ensures) (not-false _ (o .if1 .left)) _ _ (l .before .lower .ensures) (l .lower2 .ensures) (not-false _ (n .if2 .left)) _ _ (c .before .higher .ensures) (c .higher2 .ensures)
 
 pub bounded-spec : {M : Type 1} → statement M
 bounded-spec =
     tie.close
-    (tie.spec within-requires within-requires-2 at-most-requires returns returns-2 returns-3)
+    (tie.spec
+    at-most-requires
+    returns
+    lower-requires
+    lower-requires-2
+    returns-2
+    higher-requires
+    higher-requires-2
+    returns-3)

@@ -1,0 +1,72 @@
+-- What the code that refills normals cites: a direction by its squared length, one triangle more of a loop, and the refusals in their order. Assumes nothing.
+use mathlib.Core.Path.{_≡_, sym, ap, _∙_}
+use Prim.Native.Nat.{ℕ, _+_, _-_, _/_, _%_, _≤_, _<_}
+use native.Mathlib.Nat.{sub-zero, sub-eq-zero-of-le}
+use native.Mathlib.Numerals.{add-one}
+use mathlib.Core.Bool.{true, false}
+use mathlib.Core.List.{List}
+use lib.ListN.{length, length-set}
+use lib.Ieee.{Float, lt}
+use borrow.Author.Tests.{lt-ltb, le-ltb, eq-eqb, ne-eqb}
+use Rattle.float.specs.Number.{nought, one, trillionth}
+use Rattle.float.specs.Root.{root}
+use Rattle.aabb.specs.declared.vector.Vec3.{Vec3}
+use Rattle.aabb.specs.Vector.{vec, divided, dot}
+use Rattle.triangle.specs.declared.Unadmitted.{Unadmitted}
+use Rattle.triangle.specs.declared.Unadmitted.the-variants.{At, Nothing}
+use Rattle.triangle.specs.declared.normals.Refill.the-variants.{Done, Refused}
+use Rattle.triangle.specs.Mesh.{firstRefused}
+use Rattle.triangle.specs.Normal.{direction}
+use Rattle.triangle.specs.Refilled.{most-triangles, outcome, put, filled, filledFrom, checked, refilled}
+use Rattle.triangle.proofs.Admitting.{one-more}
+
+-- ---- the direction, by the squared length
+module _ (a : Vec3) (d : Float) (is : d ≡ dot a a) where
+  pub long : (r : Float) (v : Vec3) → lt trillionth d ≡ true → r ≡ root d → v ≡ divided a r → v ≡ direction a
+  unfolding direction
+  long r v p q e = rw (← is, p) (e ∙ ap (divided a) q)
+
+  pub short : lt trillionth d ≡ false → vec nought one nought ≡ direction a
+  unfolding direction
+  short p = rw (← is, p)
+
+-- ---- one triangle more
+pub fill-start : (m : List Float) (n : ℕ) → filledFrom m 0 (n - 0) ≡ filledFrom m 0 n
+fill-start m n = ap (λ (k : ℕ). filledFrom m 0 k) (sub-zero n)
+
+module _ (m : List Float) (i n : ℕ) where
+  pub fill-go : i < n → filledFrom m i (n - i) ≡ filledFrom (filled m i) (i + 1) (n - (i + 1))
+  unfolding filledFrom
+  fill-go h = ap (λ (k : ℕ). filledFrom m i k) (one-more i n h) ∙ ap (λ (k : ℕ). filledFrom (filled m i) k (n - (i + 1))) (sym (add-one i))
+
+  pub fill-end : n ≤ i → filledFrom m i (n - i) ≡ m
+  unfolding filledFrom
+  fill-end h = ap (λ (k : ℕ). filledFrom m i k) (sub-eq-zero-of-le h)
+
+pub length-filled : (m : List Float) (i : ℕ) → length (filled m i) ≡ length m
+unfolding filled put
+length-filled m i = simp length-set
+
+-- ---- the refusals, in their order
+module _ (m : List Float) where
+  pub refill-1 : (length m % 12 ≡ 0 → ⊥) → outcome (Refused 1 0) m ≡ refilled m
+  unfolding refilled
+  refill-1 p = rw (ne-eqb (length m % 12) 0 p)
+
+  module _ (whole : length m % 12 ≡ 0) where
+    pub refill-2 : most-triangles < length m / 12 → outcome (Refused 2 (length m / 12)) m ≡ refilled m
+    unfolding refilled
+    refill-2 p = rw (eq-eqb (length m % 12) 0 whole, lt-ltb most-triangles (length m / 12) p)
+
+    module _ (few : length m / 12 ≤ most-triangles) (f : Unadmitted) (is : f ≡ firstRefused m 0 (length m / 12)) where
+      all-checked : checked m f ≡ refilled m
+      unfolding refilled
+      all-checked = rw (eq-eqb (length m % 12) 0 whole, le-ltb most-triangles (length m / 12) few) (ap (checked m) is)
+
+      pub refill-5 : (i : ℕ) → f ≡ At i → outcome (Refused 5 i) m ≡ refilled m
+      unfolding checked
+      refill-5 i p = ap (checked m) (sym p) ∙ all-checked
+
+      pub refill-done : f ≡ Nothing → (l : List Float) → l ≡ filledFrom m 0 (length m / 12) → outcome Done l ≡ refilled m
+      unfolding checked
+      refill-done p l e = ap (outcome Done) e ∙ ap (checked m) (sym p) ∙ all-checked

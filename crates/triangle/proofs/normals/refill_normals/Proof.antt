@@ -1,0 +1,54 @@
+-- Each return is a line of the refusals, or the mesh that is filled. Assumes nothing.
+use borrow.Author.Needs.{needs}
+use Rattle.triangle.proofs.Refilling.{refill-1, refill-2, refill-5, refill-done}
+use Rattle.triangle.proofs.normals.refill_normals.Statement.{statement}
+use Rattle.triangle.proofs.normals.refill_normals.Tie as tie
+
+returns : tie.Need-returns
+returns c = refill-1 (c .before .before .args .mesh .now) (c .if1 .taken)
+
+returns-2 : tie.Need-returns-2
+returns-2 c = refill-2 (c .before .before .before .args .mesh .now) (c .before .if1 .left) (c .if2 .taken)
+
+first-refused-requires : tie.Need-first-refused-requires
+first-refused-requires c κs = search needs
+
+enum-known-bad : tie.Need-enum-known-bad
+enum-known-bad c = search needs
+
+same-length : tie.Need-same-length
+same-length c = search needs
+
+returns-3 : tie.Need-returns-3
+returns-3 c =
+    let f = c .before .before .before .first-refused in
+    refill-5 (c .before .before .before .before .before .before .before .before .args .mesh .now) (c .before .before .before .before .before .before .if1 .left) (c .before .before .before .before .before .if2 .left) (f .result) (f .ensures) (c .before .bad .given .0 .0) (c .before .bad .given .1)
+
+enum-told : tie.Need-enum-told
+enum-told c = search needs
+
+fill-requires : tie.Need-fill-requires
+fill-requires c κs = search needs
+
+same-length-2 : tie.Need-same-length-2
+same-length-2 c = search needs
+
+returns-4 : tie.Need-returns-4
+returns-4 c =
+    let f = c .before .before .before .before .before .before .first-refused in
+    refill-done (c .before .before .before .before .before .before .before .before .before .before .before .args .mesh .now) (c .before .before .before .before .before .before .before .before .before .if1 .left) (c .before .before .before .before .before .before .before .before .if2 .left) (f .result) (f .ensures) (c .before .before .before .before .enum-told .given .1) (c .before .before .fill .last .0) (c .before .before .fill .ensures)
+
+pub refill-normals-spec : {M : Type 1} → statement M
+refill-normals-spec =
+    tie.close
+    (tie.spec
+    returns
+    returns-2
+    first-refused-requires
+    enum-known-bad
+    same-length
+    returns-3
+    enum-told
+    fill-requires
+    same-length-2
+    returns-4)
