@@ -137,6 +137,23 @@ uint32_t pigeonmast_slab(const double bounds[6], const double ray[6],
 uint32_t pigeonmast_triangle(const double triangle[12], const double ray[6],
                              double numbers[7]);
 
+/* The square root, rounded to nearest even: -0 gives -0, +inf itself, and a NaN
+ * or a number below zero a NaN. Answers on every double. */
+double pigeonmast_root(double x);
+
+/* The triangle (v0, v1, v2, normal) of these corners (v0, v1, v2). The normal is
+ * the cross product of the edges from v0, divided by its length; or (0, 1, 0)
+ * where its squared length is not above 1e-12. Answers on every double. */
+void pigeonmast_new(const double corners[9], double triangle[12]);
+
+/* Refills the normal of each triangle from its corners, as pigeonmast_new has
+ * it, and touches nothing else. Answers 0 with told = 0; or refusal 1, 2 or 5
+ * (the lowest triangle), the first in this order that applies, with told = at
+ * and the triangles unchanged. What it leaves it never refuses, and leaves as it
+ * is. */
+uint32_t pigeonmast_normals(double *triangles, size_t triangles_len,
+                            uint64_t told[1]);
+
 #ifdef __cplusplus
 }
 #endif

@@ -69,5 +69,28 @@ int main(void)
     ANSWERS(pigeonmast_slab(unit, p2, times), 1);
     HOLDS(times, 0, 1);
     ANSWERS(pigeonmast_slab(unit, rays, times), 0);
+
+    /* A6: the root, a triangle of corners, the normals of a mesh. */
+    double made[12] = {9, 9, 9, 9, 9, 9, 9, 9, 9, 9, 9, 9};
+    ANSWERS(pigeonmast_root(2), 1.4142135623730951);
+    ANSWERS(1 / pigeonmast_root(-0.0), -1 / 0.0);
+    ANSWERS(pigeonmast_root(1 / 0.0), 1 / 0.0);
+    ANSWERS(pigeonmast_root(5e-324), 0x1p-537);
+    ANSWERS(pigeonmast_root(-1) != pigeonmast_root(-1), 1);
+    pigeonmast_new(mesh + 12, made);
+    HOLDS(made, 16, 0, 0, 19, 0, 0, 16, 3, 0, 0, 0, 1);
+    const double line[9] = {0, 0, 0, 1, 1, 1, 2, 2, 2};
+    pigeonmast_new(line, made);
+    HOLDS(made, 0, 0, 0, 1, 1, 1, 2, 2, 2, 0, 1, 0);
+    mesh[9 + 12] = mesh[10 + 12] = mesh[11 + 12] = 0, mesh[11] = 0.5;
+    ANSWERS(pigeonmast_normals(mesh, 59, at), 1);
+    mesh[9 + 36] = 3;
+    ANSWERS(pigeonmast_normals(mesh, 60, at), 5);
+    HOLDS(at, 3);
+    HOLDS(mesh, 0, 0, 0, 3, 0, 0, 0, 3, 0, 0, 0, 0.5);
+    mesh[9 + 36] = 0;
+    ANSWERS(pigeonmast_normals(mesh, 60, at), 0);
+    HOLDS(at, 0);
+    HOLDS(mesh, 0, 0, 0, 3, 0, 0, 0, 3, 0, 0, 0, 1, 16, 0, 0, 19, 0, 0, 16, 3, 0, 0, 0, 1);
     return differ;
 }

@@ -59,4 +59,14 @@ extern "C" {
         ray: *const [f64; 6],
         numbers: *mut [f64; 7],
     ) -> u32;
+
+    pub fn pigeonmast_root(x: f64) -> f64;
+
+    pub fn pigeonmast_new(corners: *const [f64; 9], triangle: *mut [f64; 12]);
+
+    pub fn pigeonmast_normals(
+        triangles: *mut f64,
+        triangles_len: usize,
+        told: *mut [u64; 1],
+    ) -> u32;
 }

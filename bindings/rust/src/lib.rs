@@ -29,6 +29,8 @@
 //!
 //! [`Bvh::sky`] walks many rays in one call, [`Bvh::sky_parallel`] on many threads.
 //!
+//! [`Triangle::new`] works a normal out, [`refill_normals`] those of a whole mesh.
+//!
 //! [`raw`] has the calls of the library as they stand, over lent slices, and says
 //! what is asked of the floating-point state. A Rust program starts in it.
 //!
@@ -48,5 +50,5 @@ mod vector;
 pub use aabb::{ray_aabb_slab_test, Aabb};
 pub use bvh::{build_bvh, Bvh, BvhNode, Place, PlaceHit, Walk};
 pub use refusal::Refusal;
-pub use triangle::{HitRecord, Triangle};
+pub use triangle::{refill_normals, HitRecord, Triangle};
 pub use vector::{Ray, Vec3};

@@ -172,3 +172,40 @@ pub fn triangle(triangle: &[f64; 12], ray: &[f64; 6], numbers: &mut [f64; 7]) ->
     // SAFETY: three arrays of the lengths that the call is declared with.
     unsafe { ffi::pigeonmast_triangle(triangle, ray, numbers) }
 }
+
+/// The square root, rounded to nearest even: -0 gives -0, +inf itself, and a NaN
+/// or a number below zero a NaN. Answers on every number.
+///
+/// ```
+/// assert_eq!(pigeonmast::raw::root(2.0), 2.0_f64.sqrt());
+/// ```
+#[must_use]
+pub fn root(x: f64) -> f64 {
+    // SAFETY: a number in, a number out.
+    unsafe { ffi::pigeonmast_root(x) }
+}
+
+/// Makes the triangle (v0, v1, v2, normal) of these corners (v0, v1, v2), with
+/// the normal that they give. Answers on every number.
+pub fn new(corners: &[f64; 9], triangle: &mut [f64; 12]) {
+    // SAFETY: two arrays of the lengths that the call is declared with.
+    unsafe { ffi::pigeonmast_new(corners.as_ptr(), triangle.as_mut_ptr()) }
+}
+
+/// Refills the normal of each of these triangles, twelve numbers each, from its
+/// corners, and touches nothing else.
+///
+/// Answers 0 with `told` = 0; or refusal 1, 2 or 5 with `told` = at and the
+/// triangles unchanged.
+///
+/// ```
+/// let mut triangles = [0.0, 0.0, 0.0, 3.0, 0.0, 0.0, 0.0, 4.0, 0.0, 0.0, 0.0, 0.0];
+/// let mut told = [9];
+/// assert_eq!(pigeonmast::raw::normals(&mut triangles, &mut told), 0);
+/// assert_eq!((told, &triangles[9..]), ([0], &[0.0, 0.0, 1.0][..]));
+/// assert_eq!(pigeonmast::raw::normals(&mut triangles[..11], &mut told), 1);
+/// ```
+pub fn normals(triangles: &mut [f64], told: &mut [u64; 1]) -> u32 {
+    // SAFETY: as in `build`.
+    unsafe { ffi::pigeonmast_normals(triangles.as_mut_ptr(), triangles.len(), told.as_mut_ptr()) }
+}

@@ -1,9 +1,10 @@
 use std::mem::ManuallyDrop;
 use std::slice;
 
-use crate::{raw, Ray, Vec3};
+use crate::{raw, Ray, Refusal, Vec3};
 
-/// A triangle with its normal, which is taken as given.
+/// A triangle with its normal, which is taken as given; [`Triangle::new`] works it
+/// out.
 ///
 /// Admitted for a build: vertices up to 2^40 along each axis, the normal's
 /// numbers up to 2.
@@ -57,6 +58,27 @@ impl HitRecord {
 }
 
 impl Triangle {
+    /// The triangle with these vertices. Its normal is the cross product of the
+    /// edges from `v0`, divided by its length; or (0, 1, 0) where its squared
+    /// length is not above 1e-12. It answers on every number.
+    ///
+    /// ```
+    /// use pigeonmast::{Triangle, Vec3};
+    /// let at = |x, y| Vec3::new(x, y, 0.0);
+    /// let t = Triangle::new(at(0.0, 0.0), at(3.0, 0.0), at(0.0, 4.0));
+    /// assert_eq!(t.normal, Vec3::new(0.0, 0.0, 1.0));
+    /// let line = Triangle::new(at(0.0, 0.0), at(1.0, 1.0), at(2.0, 2.0));
+    /// assert_eq!(line.normal, Vec3::new(0.0, 1.0, 0.0));
+    /// ```
+    #[must_use]
+    pub fn new(v0: Vec3, v1: Vec3, v2: Vec3) -> Self {
+        let corners = [v0.x, v0.y, v0.z, v1.x, v1.y, v1.z, v2.x, v2.y, v2.z];
+        let mut numbers = [0.0; 12];
+        raw::new(&corners, &mut numbers);
+        let normal = Vec3::new(numbers[9], numbers[10], numbers[11]);
+        Self { v0, v1, v2, normal }
+    }
+
     /// As it is lent: v0, v1, v2, normal.
     #[must_use]
     pub fn numbers(&self) -> [f64; 12] {
@@ -123,4 +145,34 @@ impl From<Triangle> for [f64; 12] {
     fn from(triangle: Triangle) -> Self {
         triangle.numbers()
     }
+}
+
+/// Refills the normal of each triangle of a mesh from its vertices, as
+/// [`Triangle::new`] has it. Refused with 2 or 5, the mesh unchanged.
+///
+/// ```
+/// use pigeonmast::{refill_normals, Triangle, Vec3};
+/// let at = |x, y| Vec3::new(x, y, 0.0);
+/// // An STL file that leaves its normals zero.
+/// let mut mesh = [Triangle {
+///     v0: at(0.0, 0.0),
+///     v1: at(3.0, 0.0),
+///     v2: at(0.0, 4.0),
+///     normal: at(0.0, 0.0),
+/// }];
+/// refill_normals(&mut mesh)?;
+/// assert_eq!(mesh[0].normal, Vec3::new(0.0, 0.0, 1.0));
+/// # Ok::<(), pigeonmast::Refusal>(())
+/// ```
+pub fn refill_normals(mesh: &mut [Triangle]) -> Result<(), Refusal> {
+    let mut numbers: Vec<f64> = mesh.iter().flat_map(Triangle::numbers).collect();
+    let mut told = [0];
+    match raw::normals(&mut numbers, &mut told) {
+        0 => {}
+        number => return Err(Refusal::new(number, told[0])),
+    }
+    for (t, n) in mesh.iter_mut().zip(numbers.chunks_exact(12)) {
+        t.normal = Vec3::new(n[9], n[10], n[11]);
+    }
+    Ok(())
 }

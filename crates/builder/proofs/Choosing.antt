@@ -9,7 +9,7 @@ use lib.ListN.{length, getD, drop, replicate, length-drop}
 use lib.Seq.{drop-cons}
 use lib.Ieee.{Float, add, sub, mul, div, lt, le, ofInt, ofBits, binary64}
 use borrow.Author.Tests.{eq-eqb, ne-eqb, le-leb, lt-leb}
-use Rattle.float.specs.Number.{millionth, nought, one, one-and-half, sixteen, trillionth}
+use Rattle.float.specs.Number.{millionth, one, one-and-half, sixteen, trillionth}
 use Rattle.aabb.specs.Bounds.{area, extent}
 use Rattle.aabb.specs.Vector.{along, minus}
 use Rattle.aabb.specs.declared.vector.Vec3.{Vec3}
@@ -18,7 +18,7 @@ use Rattle.builder.specs.declared.bins.Bin.{Bin}
 use Rattle.builder.specs.declared.split.Best.{Best}
 use Rattle.builder.specs.declared.split.SplitDecision.the-variants.{MakeLeaf, Split}
 use Rattle.builder.specs.Bins.{blank, filled, joinBins, noBin, suffixOf, whole}
-use Rattle.builder.specs.Choice.{bestSplit, betterOf, chosen, costOf, leafCost, sweepFrom, tryAxis, weight}
+use Rattle.builder.specs.Choice.{bestOfAxes, bestSplit, betterOf, chosen, costOf, leafCost, sweepFrom, tryAxis, weight}
 
 -- ---- the sweep
 module _ (axis : ℕ) (lo width parent : Float) where
@@ -80,15 +80,12 @@ scale-is span = ap (λ (z : Float). div binary64 z span) sixteen-is
 
 -- 16/span of each axis, by one vector
 module _ (q : Aabb) (e s : Vec3) (p : e ≡ extent q) (f : s .x ≡ div binary64 sixteen (e .x)) (g : s .y ≡ div binary64 sixteen (e .y)) (h : s .z ≡ div binary64 sixteen (e .z)) where
-  scale-on : (a : ℕ) → a < 3 → along a s ≡ div binary64 sixteen (sub binary64 (along a (q .max)) (along a (q .min)))
+  pub scale-on : (a : ℕ) → a < 3 → along a s ≡ div binary64 sixteen (sub binary64 (along a (q .max)) (along a (q .min)))
   unfolding along extent minus
   scale-on zero k = f ∙ ap (λ (v : Vec3). div binary64 sixteen (v .x)) p
   scale-on (suc zero) k = g ∙ ap (λ (v : Vec3). div binary64 sixteen (v .y)) p
   scale-on (suc (suc zero)) k = h ∙ ap (λ (v : Vec3). div binary64 sixteen (v .z)) p
   scale-on (suc (suc (suc a))) k = absurd (omega arith)
-
-  pub fill-on : (m : List Float) (ids : List ℕ) (a : ℕ) → a < 3 → filled m a (along a (q .min)) (along a s) (replicate 16 noBin) ids ≡ filled m a (along a (q .min)) (div binary64 sixteen (sub binary64 (along a (q .max)) (along a (q .min)))) (replicate 16 noBin) ids
-  fill-on m ids a k = ap (λ (z : Float). filled m a (along a (q .min)) z (replicate 16 noBin) ids) (scale-on a k)
 
 module _ (m : List Float) (ids : List ℕ) (q : Aabb) (axis : ℕ) (parent : Float) (best : Best) (lo hi : Float) (el : lo ≡ along axis (q .min)) (eh : hi ≡ along axis (q .max)) where
   pub try-skip : lt (sub binary64 hi lo) millionth ≡ true → best ≡ tryAxis m ids q axis parent best
@@ -112,10 +109,9 @@ module _ (m : List Float) (ids : List ℕ) (b q : Aabb) where
     unfolding bestSplit
     choose-flat t = rw (lt-leb (length ids) 4 h, ← e, t)
 
-    pub choose-best : (x y z : Best) → le parent trillionth ≡ false → x ≡ tryAxis m ids q 0 parent (record { cost = mul binary64 (whole (length ids)) one-and-half; axis = 0; position = nought })
-        → y ≡ tryAxis m ids q 1 parent x → z ≡ tryAxis m ids q 2 parent y → chosen (mul binary64 (whole (length ids)) one-and-half) z ≡ bestSplit m ids b q
+    pub choose-best : (z : Best) → le parent trillionth ≡ false → z ≡ bestOfAxes m ids q parent (mul binary64 (whole (length ids)) one-and-half) → chosen (mul binary64 (whole (length ids)) one-and-half) z ≡ bestSplit m ids b q
     unfolding bestSplit leafCost
-    choose-best x y z t p o r = rw (lt-leb (length ids) 4 h, ← e, t, ← p, ← o, ← r)
+    choose-best z t p = rw (lt-leb (length ids) 4 h, ← e, t, ← p)
 
 pub chosen-split : (leaf : Float) (z : Best) → lt (z .cost) leaf ≡ true → Split (z .axis) (z .position) ≡ chosen leaf z
 unfolding chosen

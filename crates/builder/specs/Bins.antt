@@ -38,11 +38,15 @@ place mesh axis min scale i = binOf 15 (mul binary64 (sub binary64 (centroidAt m
 abbrev pub blank : Bin
 blank = record { count = 0; bounds = box (vec nan nan nan) (vec nan nan nan) }
 
+-- a triangle more in bin k
+abbrev pub withOne : List Bin → ℕ → Aabb → List Bin
+withOne bins k b = set bins k (withBox (getD bins k blank) b)
+
 -- the bins, with the range's triangles put in, in list order
 unfoldable pub filled : List Float → ℕ → Float → Float → List Bin → List ℕ → List Bin
 filled mesh axis min scale bins [] = bins
 filled mesh axis min scale bins (i ∷ is) =
-    filled mesh axis min scale (set bins (place mesh axis min scale i) (withBox (getD bins (place mesh axis min scale i) blank) (boundsAt mesh i))) is
+    filled mesh axis min scale (withOne bins (place mesh axis min scale i) (boundsAt mesh i)) is
 
 -- the bins to the right of a boundary, joined from the right end
 unfoldable pub suffixOf : List Bin → Bin

@@ -51,14 +51,19 @@ tryAxis mesh range centroids axis parent best =
 unfoldable pub leafCost : List ℕ → Float
 leafCost range = mul binary64 (whole (length range)) one-and-half
 
+-- Axes x, y, z
+unfoldable pub bestOfAxes : List Float → List ℕ → Aabb → Float → Float → Best
+bestOfAxes mesh range centroids parent leaf =
+    tryAxis mesh range centroids 2 parent (tryAxis mesh range centroids 1 parent (tryAxis mesh range centroids 0 parent (record { cost = leaf; axis = 0; position = nought })))
+
 unfoldable pub chosen : Float → Best → SplitDecision
 chosen leaf best = cond (lt (best .cost) leaf) (Split (best .axis) (best .position)) MakeLeaf
 
--- No split at 4 or fewer, or when the parent area is <= 1e-12. Axes x, y, z
+-- No split at 4 or fewer, or when the parent area is <= 1e-12
 unfoldable pub bestSplit : List Float → List ℕ → Aabb → Aabb → SplitDecision
 bestSplit mesh range bounds centroids =
     let leaf = leafCost range in
     let parent = area bounds in
     cond (leb (length range) 4) MakeLeaf
     (cond (le parent trillionth) MakeLeaf
-    (chosen leaf (tryAxis mesh range centroids 2 parent (tryAxis mesh range centroids 1 parent (tryAxis mesh range centroids 0 parent (record { cost = leaf; axis = 0; position = nought }))))))
+    (chosen leaf (bestOfAxes mesh range centroids parent leaf)))

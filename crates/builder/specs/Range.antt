@@ -1,7 +1,9 @@
 -- A range of triangle numbers: its box, and the box of its centroids. Definitions only.
-use Prim.Native.Nat.{ℕ}
+use Prim.Native.Nat.{ℕ, _/_, _<_}
 use mathlib.Core.List.{List, [], _∷_}
+use lib.ListN.{length}
 use lib.Ieee.{Float}
+use Rattle.lent.specs.Permutation.{occ}
 use Rattle.aabb.specs.declared.bounds.Aabb.{Aabb}
 use Rattle.aabb.specs.Bounds.{emptyBox, grown, union}
 use Rattle.triangle.specs.Mesh.{triangleAt, centroidOf, boundsAt}
@@ -21,3 +23,7 @@ centroidsFrom mesh b (i ∷ is) = centroidsFrom mesh (grown b (centroidOf (trian
 
 unfoldable pub centroidBox : List Float → List ℕ → Aabb
 centroidBox mesh range = centroidsFrom mesh emptyBox range
+
+-- each number of a list is that of a triangle of the mesh
+abbrev pub Numbered : List Float → List ℕ → Type 0
+Numbered mesh ids = (v : ℕ) → 0 < occ v ids → v < length mesh / 12

@@ -10,10 +10,10 @@ ghost use Rattle.float.specs.Number.{infinity};
 ghost use Rattle.aabb.specs.Vector.{along};
 ghost use Rattle.aabb.specs.Bounds.{Clear, union, boxAt};
 ghost use Rattle.lent.specs.Limits.{most-triangles};
-ghost use Rattle.lent.specs.Permutation.{occ};
+ghost use Rattle.builder.specs.Range.{Numbered};
 ghost use Rattle.builder.specs.Layout.{boxPut};
 ghost use Rattle.builder.specs.Bins.{whole, noBin, joinBins, binOf, filled};
-ghost use Rattle.builder.specs.Lanes.{binAt, lane, Lanes, Vacant};
+ghost use Rattle.builder.specs.Lanes.{binAt, lane, Lanes, Vacant, OneMore};
 
 pub struct Bin {
     pub count: u32,
@@ -102,7 +102,7 @@ pub fn vacate(boxes: &mut [f64; 288])
 
 // One triangle more in bin k, whose box is given.
 pub fn put(boxes: &mut [f64; 288], counts: &mut [u32; 48], k: usize, b: Aabb)
-    requires { ⌜ (k < 48) × Lanes most-triangles (now boxes) (now counts) ⌝ }
+    requires { ⌜ (k < 48) × Lanes (most-triangles + 1) (now boxes) (now counts) ⌝ }
     ensures { λ _. ⌜ now (boxes .exit) ≡ boxPut (now (boxes .entry)) k (union (boxAt (now (boxes .entry)) k) b) ⌝ }
     ensures { λ _. ⌜ now (counts .exit) ≡ set (now (counts .entry)) k (getD (now (counts .entry)) k 0 + 1) ⌝ }
 {
@@ -111,7 +111,20 @@ pub fn put(boxes: &mut [f64; 288], counts: &mut [u32; 48], k: usize, b: Aabb)
     counts[k] += 1;
 }
 
-// The bins of the three axes in one pass over the range: bin k of an axis stands at axis·16 + k.
+// One triangle more in its bin of each axis, whose box is given: `at` is how far its centroid is from the first bin, in bins. Bin k of an axis stands at axis·16 + k.
+fn put_on_axes(boxes: &mut [f64; 288], counts: &mut [u32; 48], at: Vec3, b: Aabb)
+    requires { ⌜ Lanes most-triangles (now boxes) (now counts) ⌝ }
+    ensures { λ _. ⌜ OneMore at b (now (boxes .entry)) (now (counts .entry)) (now (boxes .exit)) (now (counts .exit)) ⌝ }
+{
+    let x = bin_of(at.x);
+    let y = bin_of(at.y);
+    let z = bin_of(at.z);
+    put(boxes, counts, x, b);
+    put(boxes, counts, 16 + y, b);
+    put(boxes, counts, 32 + z, b);
+}
+
+// The bins of the three axes in one pass over the range.
 pub fn fill(
     triangles: &[f64],
     index: &[u32],
@@ -120,7 +133,7 @@ pub fn fill(
     boxes: &mut [f64; 288],
     counts: &mut [u32; 48],
 )
-    requires { ⌜ ((v : ℕ) → 0 < occ v (now index) → v < length (now triangles) / 12) ⌝ }
+    requires { ⌜ Numbered (now triangles) (now index) ⌝ }
     requires { ⌜ (length (now index) ≤ most-triangles) × Vacant (now boxes) (now counts) ⌝ }
     ensures { λ _. ⌜ Lanes most-triangles (now (boxes .exit)) (now (counts .exit)) ⌝ }
     ensures { λ _. ⌜ ((a : ℕ) → a < 3 → lane (now (boxes .exit)) (now (counts .exit)) (a * 16) 16 ≡ filled (now (triangles .entry)) a (along a min) (along a scale) (replicate 16 noBin) (now (index .entry))) ⌝ }
@@ -129,13 +142,12 @@ pub fn fill(
     while i < index.len() {
         let t = range::corners(triangles, index[i]);
         let c = t.centroid();
-        let b = range::box_of(t);
-        let x = bin_of((c.x - min.x) * scale.x);
-        let y = bin_of((c.y - min.y) * scale.y);
-        let z = bin_of((c.z - min.z) * scale.z);
-        put(boxes, counts, x, b);
-        put(boxes, counts, 16 + y, b);
-        put(boxes, counts, 32 + z, b);
+        let at = Vec3 {
+            x: (c.x - min.x) * scale.x,
+            y: (c.y - min.y) * scale.y,
+            z: (c.z - min.z) * scale.z,
+        };
+        put_on_axes(boxes, counts, at, range::box_of(t));
         i += 1;
     }
 }

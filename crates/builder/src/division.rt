@@ -8,7 +8,7 @@ ghost use Prim.Native.Nat.{ℕ, _+_, _*_, _/_, _≤_, _<_, _-_};
 ghost use lib.ListN.{length};
 ghost use Rattle.lent.specs.Limits.{most-triangles, most-nodes};
 ghost use Rattle.builder.specs.Tree.{grow};
-ghost use Rattle.lent.specs.Permutation.{occ};
+ghost use Rattle.builder.specs.Range.{Numbered};
 ghost use Rattle.builder.specs.Layout.{Divided};
 
 // The next free node number, or that the tree is too deep.
@@ -29,7 +29,7 @@ pub fn subdivide(
     next: usize,
     below: usize,
 ) -> Made
-    requires { ⌜ ((v : ℕ) → 0 < occ v (now index) → v < length (now triangles) / 12) ⌝ }
+    requires { ⌜ Numbered (now triangles) (now index) ⌝ }
     requires { ⌜ (first + length (now index) ≤ most-triangles) × (node < next) × (next + 2 * (length (now index) - 1) ≤ most-nodes) ⌝ }
     requires { ⌜ ((next + 2 * (length (now index) - 1)) * 6 ≤ length (now boxes)) × ((next + 2 * (length (now index) - 1)) * 3 ≤ length (now links)) ⌝ }
     ensures { λ r. ⌜ Divided (grow (now (triangles .entry)) below first (now (index .entry))) node next (now (boxes .entry)) (now (links .entry)) r (now (index .exit)) (now (boxes .exit)) (now (links .exit)) ⌝ }

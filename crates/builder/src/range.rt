@@ -7,8 +7,7 @@ ghost use mathlib.Core.Path.{_≡_};
 ghost use Prim.Native.Nat.{ℕ, _+_, _/_, _≤_, _<_};
 ghost use lib.ListN.{length};
 ghost use Rattle.lent.specs.Limits.{most-triangles};
-ghost use Rattle.builder.specs.Range.{nodeBox, centroidBox};
-ghost use Rattle.lent.specs.Permutation.{occ};
+ghost use Rattle.builder.specs.Range.{Numbered, nodeBox, centroidBox};
 ghost use Rattle.aabb.specs.Vector.{vectorAt};
 ghost use Rattle.aabb.specs.Bounds.{ofThree};
 ghost use Rattle.triangle.specs.Mesh.{triangleAt, centroidAt};
@@ -53,7 +52,7 @@ pub fn box_of(t: Corners) -> Aabb
 
 // Both boxes of a range of triangles that are there.
 pub fn around(triangles: &[f64], index: &[u32]) -> Hull
-    requires { ⌜ ((v : ℕ) → 0 < occ v (now index) → v < length (now triangles) / 12) ⌝ }
+    requires { ⌜ Numbered (now triangles) (now index) ⌝ }
     requires { ⌜ length (now index) ≤ most-triangles ⌝ }
     ensures { λ r. ⌜ (r .bounds ≡ nodeBox (now (triangles .entry)) (now (index .entry))) × (r .centroids ≡ centroidBox (now (triangles .entry)) (now (index .entry))) ⌝ }
 {

@@ -6,16 +6,16 @@ use aabb::Aabb;
 use aabb::Vec3;
 ghost use mathlib.Core.Path.{_≡_};
 ghost use mathlib.Core.List.{List};
-ghost use Prim.Native.Nat.{ℕ, _*_, _/_, _≤_, _<_};
+ghost use Prim.Native.Nat.{ℕ, _*_, _≤_, _<_};
 ghost use lib.ListN.{length, replicate};
 ghost use lib.Ieee.{Float, div, sub, binary64};
 ghost use Rattle.float.specs.Number.{sixteen};
 ghost use Rattle.aabb.specs.Vector.{along};
 ghost use Rattle.lent.specs.Limits.{most-triangles};
 ghost use Rattle.builder.specs.Bins.{noBin, filled};
-ghost use Rattle.lent.specs.Permutation.{occ};
+ghost use Rattle.builder.specs.Range.{Numbered};
 ghost use Rattle.builder.specs.Lanes.{lane, Lanes};
-ghost use Rattle.builder.specs.Choice.{weight, betterOf, sweepFrom, tryAxis, bestSplit};
+ghost use Rattle.builder.specs.Choice.{weight, betterOf, sweepFrom, tryAxis, bestOfAxes, bestSplit};
 
 pub enum SplitDecision {
     Split { axis: usize, position: f64 },
@@ -143,9 +143,57 @@ fn scale(span: f64) -> f64
     (Aabb::SAH_BINS as f64) / span
 }
 
+// 16/span of each axis.
+fn scales(centroids: Aabb) -> Vec3
+    ensures { λ r. ⌜ ((a : ℕ) → a < 3 → along a r ≡ div binary64 sixteen (sub binary64 (along a (centroids .max)) (along a (centroids .min)))) ⌝ }
+{
+    let span = centroids.extent();
+    Vec3 {
+        x: scale(span.x),
+        y: scale(span.y),
+        z: scale(span.z),
+    }
+}
+
+// The three axes, whose bins are filled, one after the other. The best starts at the cost of a leaf.
+fn try_axes(boxes: &[f64; 288], counts: &[u32; 48], centroids: Aabb, parent: f64, leaf: f64) -> Best
+    requires { ⌜ Lanes most-triangles (now boxes) (now counts) ⌝ }
+    ensures { λ r. ⌜ ((mesh : List Float) (range : List ℕ) → ((a : ℕ) → a < 3 → lane (now (boxes .entry)) (now (counts .entry)) (a * 16) 16 ≡ filled mesh a (along a (centroids .min)) (div binary64 sixteen (sub binary64 (along a (centroids .max)) (along a (centroids .min)))) (replicate 16 noBin) range) → r ≡ bestOfAxes mesh range centroids parent leaf) ⌝ }
+{
+    let none = Best {
+        cost: leaf,
+        axis: 0,
+        position: 0.0,
+    };
+    let x = try_axis(boxes, counts, 0, centroids, parent, none);
+    let y = try_axis(boxes, counts, 1, centroids, parent, x);
+    try_axis(boxes, counts, 2, centroids, parent, y)
+}
+
+// The best of the three axes: their bins are filled in one pass.
+fn best_of_axes(triangles: &[f64], index: &[u32], centroids: Aabb, parent: f64, leaf: f64) -> Best
+    requires { ⌜ Numbered (now triangles) (now index) ⌝ }
+    requires { ⌜ length (now index) ≤ most-triangles ⌝ }
+    ensures { λ r. ⌜ r ≡ bestOfAxes (now (triangles .entry)) (now (index .entry)) centroids parent leaf ⌝ }
+{
+    let far = float::infinity();
+    let mut boxes = [far; 288];
+    let mut counts = [0u32; 48];
+    bins::vacate(&mut boxes);
+    bins::fill(
+        triangles,
+        index,
+        centroids.min,
+        scales(centroids),
+        &mut boxes,
+        &mut counts,
+    );
+    try_axes(&boxes, &counts, centroids, parent, leaf)
+}
+
 // The best split of the range whose boxes are given, or none.
 pub fn find_best_split(triangles: &[f64], index: &[u32], hull: Hull) -> SplitDecision
-    requires { ⌜ ((v : ℕ) → 0 < occ v (now index) → v < length (now triangles) / 12) ⌝ }
+    requires { ⌜ Numbered (now triangles) (now index) ⌝ }
     requires { ⌜ length (now index) ≤ most-triangles ⌝ }
     ensures { λ r. ⌜ r ≡ bestSplit (now (triangles .entry)) (now (index .entry)) (hull .bounds) (hull .centroids) ⌝ }
 {
@@ -156,39 +204,13 @@ pub fn find_best_split(triangles: &[f64], index: &[u32], hull: Hull) -> SplitDec
     if parent <= 1e-12 {
         return SplitDecision::MakeLeaf;
     }
-    let centroids = hull.centroids;
     let count = index.len() as u32;
     let leaf = (count as f64) * Aabb::SAH_INTERSECTION_COST;
-    let none = Best {
-        cost: leaf,
-        axis: 0,
-        position: 0.0,
-    };
-    let span = centroids.extent();
-    let scales = Vec3 {
-        x: scale(span.x),
-        y: scale(span.y),
-        z: scale(span.z),
-    };
-    let far = float::infinity();
-    let mut boxes = [far; 288];
-    let mut counts = [0u32; 48];
-    bins::vacate(&mut boxes);
-    bins::fill(
-        triangles,
-        index,
-        centroids.min,
-        scales,
-        &mut boxes,
-        &mut counts,
-    );
-    let x = try_axis(&boxes, &counts, 0, centroids, parent, none);
-    let y = try_axis(&boxes, &counts, 1, centroids, parent, x);
-    let z = try_axis(&boxes, &counts, 2, centroids, parent, y);
-    if z.cost < leaf {
+    let best = best_of_axes(triangles, index, hull.centroids, parent, leaf);
+    if best.cost < leaf {
         return SplitDecision::Split {
-            axis: z.axis,
-            position: z.position,
+            axis: best.axis,
+            position: best.position,
         };
     }
     SplitDecision::MakeLeaf

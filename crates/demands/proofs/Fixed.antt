@@ -12,6 +12,8 @@ use Rattle.triangle.specs.declared.Corners.{Corners}
 use Rattle.triangle.specs.declared.Triangle.{Triangle}
 use Rattle.triangle.specs.declared.Crossing.{Crossing}
 use Rattle.triangle.specs.declared.Distance.{Distance}
+use Rattle.triangle.specs.declared.normals.Refill.{Refill}
+use Rattle.triangle.specs.Refilled.{Outcome as Refilling, outcome as refilling}
 use Rattle.triangle.proofs.Steps.{triangle, Crossed}
 use Rattle.builder.specs.declared.Built.{Built}
 use Rattle.builder.specs.Build.{Outcome, outcome}
@@ -21,7 +23,7 @@ use Rattle.walk.specs.Answer.{Told, told}
 use Rattle.sky.specs.declared.Filled.{Filled}
 use Rattle.sky.specs.Sky.{Filling, filling}
 
--- Every public call of `order`, `aabb` and `triangle` but those of `Corners` promises `r ≡ d`, with d a definition of what it was given: two
+-- Every public call of `float`, `aabb` and `triangle` but those of `Corners` and `refill_normals` promises `r ≡ d`, with d a definition of what it was given: two
 -- answers r and r' that the promise allows are equal.
 pub fixed : {A : Type 0} {r r' d : A} → r ≡ d → r' ≡ d → r ≡ r'
 fixed p q = p ∙ sym q
@@ -52,6 +54,12 @@ crossing-fixed x x' v0 v1 v2 r p q =
 
     alike : {d d' u u' v v' t t' : Float} → d ≡ d' → u ≡ u' → v ≡ v' → t ≡ t' → crossing d u v t ≡ crossing d' u' v' t'
     alike e f g h = rw (e, f, g, h)
+
+-- `refill_normals`: the answer, and the mesh at the end
+pub refill-fixed : (a a' : Refill) (mesh mesh' : List Float) (d : Refilling) → refilling a mesh ≡ d → refilling a' mesh' ≡ d → (a ≡ a') × (mesh ≡ mesh')
+refill-fixed a a' mesh mesh' d p q =
+    let e : refilling a mesh ≡ refilling a' mesh' = p ∙ sym q in
+    (ap (λ (o : Refilling). o .answer) e, ap (λ (o : Refilling). o .mesh) e)
 
 -- `build`: the answer, and the index list, boxes and links at the end
 pub build-fixed : (a a' : Built) (index index' : List ℕ) (boxes boxes' : List Float) (links links' : List ℕ) (d : Outcome) → outcome a index boxes links ≡ d → outcome a' index' boxes' links' ≡ d

@@ -52,18 +52,19 @@ fn of_scaled(c: u64, j: u32) -> f64
     f64::from_bits(half * 0x10_0000_0000_0000 + q)
 }
 
-// 53 digits near those of the root of the number x, from 1 to 4, whose bits are given. Nothing is claimed of them: in fact y is within 2e-5 of 1 / √x, from a
-// first guess at the bits and a polynomial that mends it, and each of the two steps that follow squares the error.
+// 53 digits near those of the root of the number x, from 1 to 4, whose bits are given. Nothing is claimed of them: in fact s is within 2e-5 of √x and
+// h of half of 1 / √x, from a first guess at the bits of 1 / √x and a polynomial that mends it, and each of the two steps that follow squares the error.
 fn guess(bits: u64) -> u64
-    requires { ⌜ bits < 2 ^ 63 ⌝ }
+    requires { ⌜ bits < 2047 * 2 ^ 52 ⌝ }
     ensures { λ r. ⌜ (2 ^ 52 ≤ r) × (r < 2 ^ 53) ⌝ }
 {
-    let x = crate::from_bits(bits);
-    let first = crate::from_bits(0x5fe4_6b50_c7b5_37a9 - bits / 2);
-    let e = x * first * first;
-    let y = first * ((2.066364762944083 - 1.6720247396439747 * e) + 0.6082922234457968 * (e * e));
-    let s = x * y;
-    let h = 0.5 * y;
+    let x = f64::from_bits(bits);
+    let first = f64::from_bits(0x5fe4_6b50_c7b5_37a9 - bits / 2);
+    let by = x * first;
+    let e = by * first;
+    let mend = (2.066364762944083 - 1.6720247396439747 * e) + 0.6082922234457968 * (e * e);
+    let s = by * mend;
+    let h = 0.5 * first * mend;
     let d = 0.5 - h * s;
     let near = s + s * d;
     let root = near + (h + h * d) * (x - near * near);

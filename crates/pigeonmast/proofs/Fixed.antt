@@ -3,7 +3,7 @@ use Prim.Native.Nat.{ℕ}
 use mathlib.Core.Path.{_≡_, sym, ap, _∙_}
 use mathlib.Core.List.{List}
 use lib.Ieee.{Float}
-use Rattle.pigeonmast.specs.Report.{abi, Build, build, Walk, walk, Sky, sky, Test, test}
+use Rattle.pigeonmast.specs.Report.{abi, Build, build, Walk, walk, Sky, sky, Test, test, Normals, normals}
 
 pub abi-fixed : (r r' : ℕ) → r ≡ abi → r' ≡ abi → r ≡ r'
 abi-fixed r r' p q = p ∙ sym q
@@ -29,3 +29,12 @@ pub test-fixed : (r r' : ℕ) (numbers numbers' : List Float) (d : Test) → tes
 test-fixed r r' numbers numbers' d p q =
     let e : test r numbers ≡ test r' numbers' = p ∙ sym q in
     (ap (λ (o : Test). o .answer) e, ap (λ (o : Test). o .numbers) e)
+
+pub normals-fixed : (r r' : ℕ) (told told' : List ℕ) (triangles triangles' : List Float) (d : Normals) → normals r told triangles ≡ d → normals r' told' triangles' ≡ d → (r ≡ r') × (told ≡ told') × (triangles ≡ triangles')
+normals-fixed r r' told told' triangles triangles' d p q =
+    let e : normals r told triangles ≡ normals r' told' triangles' = p ∙ sym q in
+    (ap (λ (o : Normals). o .answer) e, ap (λ (o : Normals). o .told) e, ap (λ (o : Normals). o .triangles) e)
+
+-- `pigeonmast_root` and `pigeonmast_new`
+pub equal-fixed : {A : Type 0} {r r' d : A} → r ≡ d → r' ≡ d → r ≡ r'
+equal-fixed p q = p ∙ sym q

@@ -5,9 +5,14 @@ use mathlib.Core.List.{List, [], _∷_}
 use lib.Ieee.{Float}
 use Rattle.aabb.specs.declared.slab.Span.{Span}
 use Rattle.aabb.specs.declared.slab.Span.the-variants.{Passed, Missed}
+use Rattle.aabb.specs.Vector.{vectorAt}
+use Rattle.triangle.specs.declared.Triangle.{Triangle}
 use Rattle.triangle.specs.declared.Hit.{Hit}
 use Rattle.triangle.specs.declared.Found.{Found}
 use Rattle.triangle.specs.declared.Found.the-variants.{At, Nothing}
+use Rattle.triangle.specs.declared.normals.Refill.{Refill}
+use Rattle.triangle.specs.declared.normals.Refill.the-variants.{Done, Refused as Unrefilled}
+use Rattle.triangle.specs.Refilled.{Outcome as Refilling}
 use Rattle.builder.specs.declared.Built.{Built}
 use Rattle.builder.specs.declared.Built.the-variants.{Tree, Refused}
 use Rattle.builder.specs.Build.{Outcome}
@@ -35,6 +40,11 @@ frontNumber h = cond (h .front) 1 0
 -- 2 front or 1 back
 unfoldable pub sideNumber : Hit → ℕ
 sideNumber h = cond (h .front) 2 1
+
+-- a triangle: v0, v1, v2, normal
+unfoldable pub triangleNumbers : Triangle → List Float
+triangleNumbers a =
+    a .v0 .x ∷ a .v0 .y ∷ a .v0 .z ∷ a .v1 .x ∷ a .v1 .y ∷ a .v1 .z ∷ a .v2 .x ∷ a .v2 .y ∷ a .v2 .z ∷ a .normal .x ∷ a .normal .y ∷ a .normal .z ∷ []
 
 -- ---- pigeonmast_build
 -- the number, and what told, the index list, the boxes and the links hold at the end
@@ -122,3 +132,25 @@ slabReport Missed times = test 0 times
 unfoldable pub triangleReport : Found → List Float → Test
 triangleReport (At h) numbers = test (sideNumber h) (hitNumbers h)
 triangleReport Nothing numbers = test 0 numbers
+
+-- ---- pigeonmast_normals
+-- the number, and what told and the triangles hold at the end
+pub record Normals : Type 0 where
+  pub answer : ℕ
+  pub told : List ℕ
+  pub triangles : List Float
+
+abbrev pub normals : ℕ → List ℕ → List Float → Normals
+normals answer told triangles = record { answer = answer; told = told; triangles = triangles }
+
+-- 0, or the refusal number with its at
+unfoldable pub normalsAnswer : Refill → ℕ
+normalsAnswer Done = 0
+normalsAnswer (Unrefilled number at) = number
+
+unfoldable pub normalsTold : Refill → List ℕ
+normalsTold Done = 0 ∷ []
+normalsTold (Unrefilled number at) = at ∷ []
+
+unfoldable pub normalsReport : Refilling → Normals
+normalsReport o = normals (normalsAnswer (o .answer)) (normalsTold (o .answer)) (o .mesh)

@@ -4,24 +4,29 @@
 use aabb::Aabb;
 use aabb::Ray;
 use aabb::Span;
+use aabb::Vec3;
 use builder::Built;
 use sky::Filled;
 use triangle::Found;
 use triangle::Hit;
+use triangle::Refill;
 use triangle::Triangle;
 use walk::Answer;
 ghost use mathlib.Core.Path.{_≡_};
-ghost use Rattle.aabb.specs.Vector.{rayAt};
+ghost use Rattle.float.specs.Root.{root};
+ghost use Rattle.aabb.specs.Vector.{rayAt, vectorAt};
 ghost use Rattle.aabb.specs.Bounds.{boxAt};
 ghost use Rattle.aabb.specs.Slab.{slab};
 ghost use Rattle.triangle.specs.Mesh.{triangleAt};
 ghost use Rattle.triangle.specs.Meeting.{strike};
+ghost use Rattle.triangle.specs.Normal.{newTriangle};
+ghost use Rattle.triangle.specs.Refilled.{refilled};
 ghost use Rattle.builder.specs.Build.{built};
 ghost use Rattle.tree.specs.Lent.{lent};
 ghost use Rattle.walk.specs.Answer.{told as answered};
 ghost use Rattle.walk.specs.Walk as scene;
 ghost use Rattle.sky.specs.Sky.{sky as filled};
-ghost use Rattle.pigeonmast.specs.Report.{abi, hitNumbers, frontNumber, sideNumber, build, buildAnswer, buildTold, buildReport, walk, walked, sky, skyAnswer, skyAt, skyReport, test, slabReport, triangleReport};
+ghost use Rattle.pigeonmast.specs.Report.{abi, hitNumbers, frontNumber, sideNumber, build, buildAnswer, buildTold, buildReport, walk, walked, sky, skyAnswer, skyAt, skyReport, test, slabReport, triangleReport, triangleNumbers, normals, normalsAnswer, normalsTold, normalsReport};
 
 // A hit's seven numbers: t, point, normal.
 fn hit_numbers(hit: Hit) -> [f64; 7]
@@ -146,6 +151,43 @@ pub extern "C" fn pigeonmast_abi() -> u32
     1
 }
 
+// A triangle's twelve numbers: v0, v1, v2, normal.
+fn triangle_numbers(t: Triangle) -> [f64; 12]
+    ensures { λ r. ⌜ r ≡ triangleNumbers t ⌝ }
+{
+    [
+        t.v0.x,
+        t.v0.y,
+        t.v0.z,
+        t.v1.x,
+        t.v1.y,
+        t.v1.z,
+        t.v2.x,
+        t.v2.y,
+        t.v2.z,
+        t.normal.x,
+        t.normal.y,
+        t.normal.z,
+    ]
+}
+
+// What a call that refills normals answered: 0 or the refusal number, with `told` written.
+fn tell_normals(answer: Refill, told: &mut [u64; 1]) -> u32
+    ensures { λ r. ⌜ r ≡ normalsAnswer answer ⌝ }
+    ensures { λ _. ⌜ now (told .exit) ≡ normalsTold answer ⌝ }
+{
+    match answer {
+        Refill::Done => {
+            *told = [0];
+            0
+        }
+        Refill::Refused { number, at } => {
+            *told = [at as u64];
+            number
+        }
+    }
+}
+
 // Builds the tree of the triangles (twelve numbers each: v0, v1, v2, normal) into the lent index list, boxes and links. 0 and told = node
 // count, leaf count; or the refusal number and told = at, 0. `builder::build` says what is written and what is refused.
 #[no_mangle]
@@ -222,4 +264,33 @@ pub extern "C" fn pigeonmast_triangle(
 {
     let found = Triangle::read(triangle, 0).intersect(Ray::read(ray, 0), 0);
     tell_triangle(found, numbers)
+}
+
+// The square root of x, rounded to nearest even. -0 gives -0, +inf itself, and a NaN or a number below zero a NaN.
+#[no_mangle]
+pub extern "C" fn pigeonmast_root(x: f64) -> f64
+    ensures { λ r. ⌜ r ≡ root x ⌝ }
+{
+    float::root(x)
+}
+
+// Makes the triangle (v0, v1, v2, normal) of these corners (v0, v1, v2), with the normal that they give, as `Triangle::new` of the Rust.
+#[no_mangle]
+pub extern "C" fn pigeonmast_new(corners: &[f64; 9], triangle: &mut [f64; 12])
+    ensures { λ _. ⌜ now (triangle .exit) ≡ triangleNumbers (newTriangle (vectorAt (now (corners .entry)) 0) (vectorAt (now (corners .entry)) 3) (vectorAt (now (corners .entry)) 6)) ⌝ }
+{
+    let v0 = Vec3::read(corners, 0);
+    let v1 = Vec3::read(corners, 3);
+    let v2 = Vec3::read(corners, 6);
+    *triangle = triangle_numbers(Triangle::new(v0, v1, v2));
+}
+
+// Refills the normals of the triangles (twelve numbers each) from their corners, in place, and touches nothing else. 0 and told = 0; or refusal 1, 2 or 5
+// (`triangle::refill_normals`) with told = at and the triangles unchanged.
+#[no_mangle]
+pub extern "C" fn pigeonmast_normals(triangles: &mut [f64], told: &mut [u64; 1]) -> u32
+    ensures { λ r. ⌜ normals r (now (told .exit)) (now (triangles .exit)) ≡ normalsReport (refilled (now (triangles .entry))) ⌝ }
+{
+    let answer = triangle::refill_normals(triangles);
+    tell_normals(answer, told)
 }

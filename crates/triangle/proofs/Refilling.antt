@@ -1,13 +1,15 @@
 -- What the code that refills normals cites: a direction by its squared length, one triangle more of a loop, and the refusals in their order. Assumes nothing.
 use mathlib.Core.Path.{_≡_, sym, ap, _∙_}
-use Prim.Native.Nat.{ℕ, _+_, _-_, _/_, _%_, _≤_, _<_}
+use Prim.Native.Nat.{ℕ, _+_, _-_, _%_, _≤_, _<_}
 use native.Mathlib.Nat.{sub-zero, sub-eq-zero-of-le}
 use native.Mathlib.Numerals.{add-one}
 use mathlib.Core.Bool.{true, false}
 use mathlib.Core.List.{List}
 use lib.ListN.{length, length-set}
 use lib.Ieee.{Float, lt}
-use borrow.Author.Tests.{lt-ltb, le-ltb, eq-eqb, ne-eqb}
+use Rattle.lent.specs.Limits.{most-triangles}
+use Rattle.lent.specs.Ladder.{triangleCount}
+use Rattle.lent.proofs.Ladder.{ends, serves, goes, agree, not-below}
 use Rattle.float.specs.Number.{nought, one, trillionth}
 use Rattle.float.specs.Root.{root}
 use Rattle.aabb.specs.declared.vector.Vec3.{Vec3}
@@ -17,7 +19,7 @@ use Rattle.triangle.specs.declared.Unadmitted.the-variants.{At, Nothing}
 use Rattle.triangle.specs.declared.normals.Refill.the-variants.{Done, Refused}
 use Rattle.triangle.specs.Mesh.{firstRefused}
 use Rattle.triangle.specs.Normal.{direction}
-use Rattle.triangle.specs.Refilled.{most-triangles, outcome, put, filled, filledFrom, checked, refilled}
+use Rattle.triangle.specs.Refilled.{Outcome, outcome, put, filled, filledFrom, checked, refilled}
 use Rattle.triangle.proofs.Admitting.{one-more}
 
 -- ---- the direction, by the squared length
@@ -47,26 +49,17 @@ pub length-filled : (m : List Float) (i : ℕ) → length (filled m i) ≡ lengt
 unfolding filled put
 length-filled m i = simp length-set
 
--- ---- the refusals, in their order
-module _ (m : List Float) where
-  pub refill-1 : (length m % 12 ≡ 0 → ⊥) → outcome (Refused 1 0) m ≡ refilled m
+-- ---- past the refusals 1 and 2
+module _ (m : List Float) (whole : length m % 12 ≡ 0) (few : triangleCount m ≤ most-triangles) where
+  pub counted : (x : Outcome) → x ≡ checked m (firstRefused m 0 (triangleCount m)) → x ≡ refilled m
   unfolding refilled
-  refill-1 p = rw (ne-eqb (length m % 12) 0 p)
+  counted x e = ends (goes (agree whole) (goes (not-below few) (serves e)))
 
-  module _ (whole : length m % 12 ≡ 0) where
-    pub refill-2 : most-triangles < length m / 12 → outcome (Refused 2 (length m / 12)) m ≡ refilled m
-    unfolding refilled
-    refill-2 p = rw (eq-eqb (length m % 12) 0 whole, lt-ltb most-triangles (length m / 12) p)
+  module _ (f : Unadmitted) (is : f ≡ firstRefused m 0 (triangleCount m)) where
+    pub refill-5 : (i : ℕ) → f ≡ At i → outcome (Refused 5 i) m ≡ refilled m
+    unfolding checked
+    refill-5 i p = counted (outcome (Refused 5 i) m) (ap (checked m) (sym p ∙ is))
 
-    module _ (few : length m / 12 ≤ most-triangles) (f : Unadmitted) (is : f ≡ firstRefused m 0 (length m / 12)) where
-      all-checked : checked m f ≡ refilled m
-      unfolding refilled
-      all-checked = rw (eq-eqb (length m % 12) 0 whole, le-ltb most-triangles (length m / 12) few) (ap (checked m) is)
-
-      pub refill-5 : (i : ℕ) → f ≡ At i → outcome (Refused 5 i) m ≡ refilled m
-      unfolding checked
-      refill-5 i p = ap (checked m) (sym p) ∙ all-checked
-
-      pub refill-done : f ≡ Nothing → (l : List Float) → l ≡ filledFrom m 0 (length m / 12) → outcome Done l ≡ refilled m
-      unfolding checked
-      refill-done p l e = ap (outcome Done) e ∙ ap (checked m) (sym p) ∙ all-checked
+    pub refill-done : f ≡ Nothing → (l : List Float) → l ≡ filledFrom m 0 (triangleCount m) → outcome Done l ≡ refilled m
+    unfolding checked
+    refill-done p l e = counted (outcome Done l) (ap (outcome Done) e ∙ ap (checked m) (sym p ∙ is))

@@ -8,11 +8,13 @@ use lib.ListN.{length}
 use lib.Dec.{T, ltb, eqb}
 use lib.Ieee.{Float}
 use borrow.Author.Tests.{eqb-true, ltb-false}
+use Rattle.lent.specs.Limits.{most-triangles}
+use Rattle.lent.specs.Ladder.{none, numbered, firstFailed, answered, unless, triangleCount}
 use Rattle.triangle.specs.declared.Unadmitted.{Unadmitted}
 use Rattle.triangle.specs.declared.Unadmitted.the-variants.{At, Nothing}
 use Rattle.triangle.specs.declared.normals.Refill.the-variants.{Done, Refused}
 use Rattle.triangle.specs.Mesh.{triangleAt, admittedTriangle, firstRefused}
-use Rattle.triangle.specs.Refilled.{most-triangles, Outcome, outcome, filledFrom, checked, refilled, Renewed}
+use Rattle.triangle.specs.Refilled.{Outcome, outcome, filledFrom, checked, refilled, Renewed}
 use Rattle.triangle.proofs.Admitting.{none-refused, all-admitted}
 use Rattle.triangle.proofs.Refilling.{refill-done}
 use Rattle.triangle.proofs.UnitNormal.{new-admitted}
@@ -20,25 +22,28 @@ use Rattle.triangle.proofs.Untouched.{length-kept, number-kept, triangl
 
 record Served (m l : List Float) : Type 0 where
   whole : length m % 12 ≡ 0
-  few : length m / 12 ≤ most-triangles
-  none : firstRefused m 0 (length m / 12) ≡ Nothing
-  is : l ≡ filledFrom m 0 (length m / 12)
+  few : triangleCount m ≤ most-triangles
+  none-bad : firstRefused m 0 (triangleCount m) ≡ Nothing
+  is : l ≡ filledFrom m 0 (triangleCount m)
 
 passed : (m l : List Float) → refilled m ≡ outcome Done l → Served m l
-unfolding refilled checked
-passed m l = go (eqb (length m % 12) 0) refl (ltb most-triangles (length m / 12)) refl (firstRefused m 0 (length m / 12)) refl
+unfolding refilled unless firstFailed answered checked
+passed m l = go (eqb (length m % 12) 0) refl (ltb most-triangles (triangleCount m)) refl (firstRefused m 0 (triangleCount m)) refl
   where
-    go : (b : Bool) → eqb (length m % 12) 0 ≡ b → (c : Bool) → ltb most-triangles (length m / 12) ≡ c → (f : Unadmitted) → firstRefused m 0 (length m / 12) ≡ f
-        → cond (not b) (outcome (Refused 1 0) m) (cond c (outcome (Refused 2 (length m / 12)) m) (checked m f)) ≡ outcome Done l → Served m l
-    go false p c q f r e = absurd (let a = ap (λ (o : Outcome). o .answer) e in let z : _≡_ {A = ℕ} 0 1 = cc in omega arith)
-    go true p true q f r e = absurd (let a = ap (λ (o : Outcome). o .answer) e in let z : _≡_ {A = ℕ} 0 1 = cc in omega arith)
-    go true p false q (At i) r e = absurd (let a = ap (λ (o : Outcome). o .answer) e in let z : _≡_ {A = ℕ} 0 1 = cc in omega arith)
-    go true p false q Nothing r e =
-        record { whole = eqb-true (length m % 12) 0 p; few = ltb-false most-triangles (length m / 12) q; none = r; is = sym (ap (λ (o : Outcome). o .mesh) e) }
+    clash : {A : Type 0} (number at : ℕ) → outcome (Refused number at) m ≡ outcome Done l → A
+    clash number at e = absurd (let a = ap (λ (o : Outcome). o .answer) e in let z : _≡_ {A = ℕ} 0 1 = cc in omega arith)
 
-module _ (m : List Float) (few : length m / 12 ≤ most-triangles) (whole : length m % 12 ≡ 0) (none : firstRefused m 0 (length m / 12) ≡ Nothing) where
+    go : (b : Bool) → eqb (length m % 12) 0 ≡ b → (c : Bool) → ltb most-triangles (triangleCount m) ≡ c → (f : Unadmitted) → firstRefused m 0 (triangleCount m) ≡ f
+        → answered (cond (not b) (numbered 1 0) (cond c (numbered 2 (triangleCount m)) none)) (λ number at. outcome (Refused number at) m) (checked m f) ≡ outcome Done l → Served m l
+    go false p c q f r e = clash 1 0 e
+    go true p true q f r e = clash 2 (triangleCount m) e
+    go true p false q (At i) r e = clash 5 i e
+    go true p false q Nothing r e =
+        record { whole = eqb-true (length m % 12) 0 p; few = ltb-false most-triangles (triangleCount m) q; none-bad = r; is = sym (ap (λ (o : Outcome). o .mesh) e) }
+
+module _ (m : List Float) (few : triangleCount m ≤ most-triangles) (whole : length m % 12 ≡ 0) (none-bad : firstRefused m 0 (triangleCount m) ≡ Nothing) where
   abbrev n : ℕ
-  n = length m / 12
+  n = triangleCount m
 
   abbrev l : List Float
   l = filledFrom m 0 n
@@ -46,12 +51,12 @@ module _ (m : List Float) (few : length m / 12 ≤ most-triangles) (whole : leng
   same : length l ≡ length m
   same = length-kept n m 0
 
-  as-many : length l / 12 ≡ n
+  as-many : triangleCount l ≡ n
   as-many = ap (λ (k : ℕ). k / 12) same
 
   each-new : (i : ℕ) → i < n → T (admittedTriangle (triangleAt l i))
   each-new i h =
-      subst (λ t. T (admittedTriangle t)) (sym (triangle-new m n (omega arith) i h)) (new-admitted (triangleAt m i) (none-refused m n 0 i none (omega arith) (omega arith)))
+      subst (λ t. T (admittedTriangle t)) (sym (triangle-new m n (omega arith) i h)) (new-admitted (triangleAt m i) (none-refused m n 0 i none-bad (omega arith) (omega arith)))
 
   again : refilled l ≡ outcome Done l
   again =
@@ -69,4 +74,4 @@ module _ (m : List Float) (few : length m / 12 ≤ most-triangles) (whole : leng
   }
 
 pub renewed : (m l : List Float) → refilled m ≡ outcome Done l → Renewed m l
-renewed m l e = let s = passed m l e in subst (λ (z : List Float). Renewed m z) (sym (s .is)) (filled-renewed m (s .few) (s .whole) (s .none))
+renewed m l e = let s = passed m l e in subst (λ (z : List Float). Renewed m z) (sym (s .is)) (filled-renewed m (s .few) (s .whole) (s .none-bad))

@@ -1,11 +1,11 @@
 -- The normals of a whole mesh, refilled from its corners: what the call answers and leaves in the mesh, on every input. Definitions only.
 use mathlib.Core.Path.{_≡_}
-use Prim.Native.Nat.{ℕ, zero, suc, _+_, _*_, _/_, _%_, _<_}
-use mathlib.Core.Bool.{cond, not}
-use mathlib.Core.List.{List}
+use Prim.Native.Nat.{ℕ, zero, suc, _+_, _*_, _%_, _<_}
+use mathlib.Core.List.{List, [], _∷_}
 use lib.ListN.{length, set}
-use lib.Dec.{T, ltb, eqb}
+use lib.Dec.{T}
 use lib.Ieee.{Float}
+use Rattle.lent.specs.Ladder.{unless, triangleCount, ragged, crowded}
 use Rattle.aabb.specs.declared.vector.Vec3.{Vec3}
 use Rattle.aabb.specs.Vector.{numberAt}
 use Rattle.triangle.specs.declared.Unadmitted.{Unadmitted}
@@ -14,9 +14,6 @@ use Rattle.triangle.specs.declared.normals.Refill.{Refill}
 use Rattle.triangle.specs.declared.normals.Refill.the-variants.{Done, Refused}
 use Rattle.triangle.specs.Mesh.{triangleAt, admittedTriangle, firstRefused}
 use Rattle.triangle.specs.Normal.{normalOf, newTriangle}
-
-abbrev pub most-triangles : ℕ
-most-triangles = 65536
 
 -- the answer, and what the mesh holds at the end
 pub record Outcome : Type 0 where
@@ -45,19 +42,18 @@ filledFrom mesh i (suc k) = filledFrom (filled mesh i) (suc i) k
 
 unfoldable pub checked : List Float → Unadmitted → Outcome
 checked mesh (At i) = outcome (Refused 5 i) mesh
-checked mesh Nothing = outcome Done (filledFrom mesh 0 (length mesh / 12))
+checked mesh Nothing = outcome Done (filledFrom mesh 0 (triangleCount mesh))
 
 -- Refusals 1, 2, 5 (lowest number), in this order, leave the mesh unchanged
 unfoldable pub refilled : List Float → Outcome
 refilled mesh =
-    cond (not (eqb (length mesh % 12) 0)) (outcome (Refused 1 0) mesh)
-    (cond (ltb most-triangles (length mesh / 12)) (outcome (Refused 2 (length mesh / 12)) mesh)
-    (checked mesh (firstRefused mesh 0 (length mesh / 12))))
+    unless (ragged mesh ∷ crowded mesh ∷ []) (λ number at. outcome (Refused number at) mesh)
+    (checked mesh (firstRefused mesh 0 (triangleCount mesh)))
 
 -- What a call that is served leaves in the mesh: as many numbers, those of the corners bit for bit, each triangle the one that its corners give, all of them admitted, and nothing that a second call would change
 pub record Renewed (before after : List Float) : Type 0 where
   pub as-long : length after ≡ length before
   pub corners : (p : ℕ) → p % 12 < 9 → numberAt after p ≡ numberAt before p
-  pub triangles : (i : ℕ) → i < length before / 12 → triangleAt after i ≡ newTriangle (triangleAt before i .v0) (triangleAt before i .v1) (triangleAt before i .v2)
-  pub admitted : (i : ℕ) → i < length before / 12 → T (admittedTriangle (triangleAt after i))
+  pub triangles : (i : ℕ) → i < triangleCount before → triangleAt after i ≡ newTriangle (triangleAt before i .v0) (triangleAt before i .v1) (triangleAt before i .v2)
+  pub admitted : (i : ℕ) → i < triangleCount before → T (admittedTriangle (triangleAt after i))
   pub settled : refilled after ≡ outcome Done after

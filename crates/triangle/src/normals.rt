@@ -10,8 +10,6 @@ ghost use lib.ListN.{length};
 ghost use Rattle.triangle.specs.Normal.{direction, normalOf, newTriangle};
 ghost use Rattle.triangle.specs.Refilled.{outcome, put, filled, filledFrom, refilled};
 
-const MOST_TRIANGLES: usize = 65536;
-
 // What a call answers: the normals are refilled, or document 01's refusal number and its `at`.
 pub enum Refill {
     Done,
@@ -62,7 +60,7 @@ pub fn refill_normals(mesh: &mut [f64]) -> Refill
         return Refill::Refused { number: 1, at: 0 };
     }
     let n = mesh.len() / 12;
-    if MOST_TRIANGLES < n {
+    if lent::MOST_TRIANGLES < n {
         return Refill::Refused { number: 2, at: n };
     }
     let bad = crate::first_refused(mesh, n);

@@ -1,4 +1,4 @@
-//! The five calls under test, by value: Pigeonmast's, or the reading's.
+//! The calls under test, by value: Pigeonmast's, or the reading's.
 
 pub type Build = fn(&[f64], &mut [u32], &mut [f64], &mut [u32], &mut [u64; 2]) -> u32;
 pub type Walk = fn(&[f64], &[u32], &[f64], &[u32], &[f64; 6], &mut [f64; 7], &mut [u64; 4]) -> u32;
@@ -13,6 +13,9 @@ pub struct Calls {
     pub sky: Sky,
     pub slab: fn(&[f64; 6], &[f64; 6], &mut [f64; 2]) -> u32,
     pub triangle: fn(&[f64; 12], &[f64; 6], &mut [f64; 7]) -> u32,
+    pub root: fn(f64) -> f64,
+    pub new: fn(&[f64; 9], &mut [f64; 12]),
+    pub normals: fn(&mut [f64], &mut [u64; 1]) -> u32,
 }
 
 pub const READING: Calls = Calls {
@@ -21,6 +24,9 @@ pub const READING: Calls = Calls {
     sky: reading::calls::sky,
     slab: reading::calls::slab,
     triangle: reading::calls::triangle,
+    root: f64::sqrt,
+    new: reading::calls::new,
+    normals: reading::calls::normals,
 };
 
 /// Equal bit for bit; two NaNs count as one.

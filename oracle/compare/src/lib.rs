@@ -1,5 +1,5 @@
 //! What the runs share: seeded meshes, rays and hostile lists, and the checks
-//! that hold five calls to the published Rust and to the reading.
+//! that hold the calls to the published Rust and to the reading.
 
 pub mod calls;
 pub mod foreign_check;
@@ -7,10 +7,12 @@ pub mod functions;
 pub mod hostile;
 pub mod mesh_check;
 pub mod meshes;
+pub mod normal_check;
 pub mod random;
 pub mod rays;
 pub mod reading_check;
 pub mod replay;
+pub mod root_check;
 pub mod run;
 pub mod show;
 pub mod sky_check;

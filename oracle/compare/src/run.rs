@@ -4,8 +4,8 @@ use crate::calls::Calls;
 use crate::mesh_check::{self, Case, Tally};
 use crate::random::Random;
 use crate::{
-    foreign_check, functions, hostile, meshes, node_room, rays, reading_check, show, sky_check,
-    Lists,
+    foreign_check, functions, hostile, meshes, node_room, normal_check, rays, reading_check,
+    root_check, show, sky_check, Lists,
 };
 use std::collections::BTreeMap;
 
@@ -18,6 +18,7 @@ pub struct Plan {
     pub hostile: usize,
     pub skies: usize,
     pub functions: usize,
+    pub roots: usize,
 }
 
 pub const QUICK: Plan = Plan {
@@ -28,6 +29,7 @@ pub const QUICK: Plan = Plan {
     hostile: 100_000,
     skies: 30_000,
     functions: 1_000_000,
+    roots: 1_000_000,
 };
 
 pub const LONG: Plan = Plan {
@@ -38,6 +40,7 @@ pub const LONG: Plan = Plan {
     hostile: 1_500_000,
     skies: 400_000,
     functions: 20_000_000,
+    roots: 100_000_000,
 };
 
 /// Prints as it goes. Answers how many differed.
@@ -48,6 +51,8 @@ pub fn all(calls: &Calls, plan: &Plan) -> u64 {
         every_hostile(calls, plan),
         every_sky(calls, plan),
         every_function(calls, plan),
+        every_root(calls, plan),
+        every_normal(calls, plan),
     ];
     parts.iter().sum()
 }
@@ -311,6 +316,53 @@ fn every_function(calls: &Calls, plan: &Plan) -> u64 {
         "functions on arbitrary numbers, seed {}: {} slab tests ({slabs} passed), {} triangle tests ({met} met)",
         plan.seed ^ 4,
         plan.functions,
+        plan.functions
+    );
+    found.end()
+}
+
+/// The root beside the machine's: every telling pattern, then seeded ones.
+fn every_root(calls: &Calls, plan: &Plan) -> u64 {
+    let mut found = Found::default();
+    let mut r = Random::new(plan.seed ^ 8);
+    let mut patterns = 0_u64;
+    let seeded = (0..plan.roots).map(|_| root_check::pattern(&mut r));
+    for x in root_check::telling().chain(seeded) {
+        patterns += 1;
+        if let Err(why) = root_check::root(calls.root, x) {
+            found.add(0, || format!("  {why}"));
+        }
+    }
+    println!("roots, seed {}: {patterns} patterns", plan.seed ^ 8);
+    found.end()
+}
+
+/// `Triangle::new` of arbitrary corners, and the normals of whole meshes.
+fn every_normal(calls: &Calls, plan: &Plan) -> u64 {
+    let mut found = Found::default();
+    let mut r = Random::new(plan.seed ^ 9);
+    let mut long = 0_u64;
+    for _ in 0..plan.functions {
+        let corners = normal_check::corners_case(&mut r);
+        match normal_check::corners(calls, &corners) {
+            Ok(worked_out) => long += u64::from(worked_out),
+            Err(why) => found.add(0, || format!("  {why}\n  corners {}", show::bits(&corners))),
+        }
+    }
+    let mut answers = BTreeMap::new();
+    let too_many = vec![0.25; 12 * 65_537];
+    let some = (0..plan.meshes).map(|_| normal_check::mesh_case(&mut r));
+    for mesh in [too_many].into_iter().chain(some) {
+        match normal_check::mesh(calls, &mesh) {
+            Ok(number) => *answers.entry(number).or_insert(0_u64) += 1,
+            Err(why) => found.add(mesh.len(), || {
+                format!("  {why}\n  mesh {}", show::bits(&mesh))
+            }),
+        }
+    }
+    println!(
+        "normals, seed {}: {} triangles of arbitrary corners ({long} not (0, 1, 0)), meshes {answers:?}",
+        plan.seed ^ 9,
         plan.functions
     );
     found.end()

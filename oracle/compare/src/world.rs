@@ -21,6 +21,14 @@ pub fn triangle(n: &[f64]) -> Triangle {
     }
 }
 
+/// `Triangle::new` of the Rust on nine numbers, as it is lent.
+pub fn new_triangle(corners: &[f64]) -> [f64; 12] {
+    let [v0, v1, v2] = std::array::from_fn(|k| vector(&corners[3 * k..]));
+    let made = Triangle::new(v0, v1, v2, 0);
+    let (a, b, c, n) = (made.v0, made.v1, made.v2, made.normal);
+    [a.x, a.y, a.z, b.x, b.y, b.z, c.x, c.y, c.z, n.x, n.y, n.z]
+}
+
 pub fn triangles(mesh: &[f64]) -> Vec<Triangle> {
     mesh.chunks_exact(12).map(triangle).collect()
 }

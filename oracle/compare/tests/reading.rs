@@ -14,6 +14,7 @@ fn the_reading_is_the_rust() {
         hostile: 500,
         skies: 500,
         functions: 20_000,
+        roots: 20_000,
     };
     assert_eq!(all(&READING, &plan), 0);
 }

@@ -38,12 +38,14 @@ impl Vec3 {
         )
     }
 
-    // `Triangle::new` needs the two below to compile. The rules leave that
-    // call out, so nothing here runs them.
+    // `Triangle::new` calls the two below: the squared length is the dot with
+    // itself, as the rules have it.
+    #[inline]
     pub fn norm_squared(&self) -> f64 {
         self.dot(self)
     }
 
+    #[inline]
     pub fn normalize(&self) -> Self {
         *self / self.norm_squared().sqrt()
     }

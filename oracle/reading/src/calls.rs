@@ -1,7 +1,7 @@
-//! The reading behind the boundary of the five exported calls.
+//! The reading behind the boundary of the exported calls.
 
 use crate::walk::Answer;
-use crate::{boxes, builder, sky as skies, triangles, walk as walker};
+use crate::{boxes, builder, normals as refill, sky as skies, triangles, walk as walker};
 
 pub fn build(
     triangles: &[f64],
@@ -88,4 +88,17 @@ pub fn triangle(triangle: &[f64; 12], ray: &[f64; 6], numbers: &mut [f64; 7]) ->
         }
         None => 0,
     }
+}
+
+pub fn new(corners: &[f64; 9], triangle: &mut [f64; 12]) {
+    *triangle = refill::new(corners);
+}
+
+pub fn normals(triangles: &mut [f64], told: &mut [u64; 1]) -> u32 {
+    let (number, at) = match refill::refill(triangles) {
+        Ok(()) => (0, 0),
+        Err(refusal) => (refusal.number, refusal.at),
+    };
+    *told = [at];
+    number
 }

@@ -10,6 +10,7 @@
 pub mod boxes;
 pub mod builder;
 pub mod calls;
+pub mod normals;
 pub mod sky;
 pub mod split;
 pub mod triangles;

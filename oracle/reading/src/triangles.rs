@@ -5,7 +5,7 @@ use crate::{within, DIRECTION_REACH, REACH};
 
 /// v0, v1, v2, normal.
 pub type Triangle = [f64; 12];
-type Vec3 = [f64; 3];
+pub(crate) type Vec3 = [f64; 3];
 
 /// A triangle that a ray meets: t, point, normal as they are handed back.
 #[derive(Clone, Copy, Debug, PartialEq)]
@@ -14,19 +14,19 @@ pub struct Met {
     pub front: bool,
 }
 
-fn part(numbers: &[f64], k: usize) -> Vec3 {
+pub(crate) fn part(numbers: &[f64], k: usize) -> Vec3 {
     [numbers[3 * k], numbers[3 * k + 1], numbers[3 * k + 2]]
 }
 
-fn minus(a: Vec3, b: Vec3) -> Vec3 {
+pub(crate) fn minus(a: Vec3, b: Vec3) -> Vec3 {
     [a[0] - b[0], a[1] - b[1], a[2] - b[2]]
 }
 
-fn dot(a: Vec3, b: Vec3) -> f64 {
+pub(crate) fn dot(a: Vec3, b: Vec3) -> f64 {
     (a[0] * b[0] + a[1] * b[1]) + a[2] * b[2]
 }
 
-fn cross(a: Vec3, b: Vec3) -> Vec3 {
+pub(crate) fn cross(a: Vec3, b: Vec3) -> Vec3 {
     [
         a[1] * b[2] - a[2] * b[1],
         a[2] * b[0] - a[0] * b[2],

@@ -1,4 +1,4 @@
-//! What the commands share: Pigeonmast's five calls.
+//! What the commands share: Pigeonmast's calls.
 
 use compare::calls::Calls;
 use pigeonmast::raw;
@@ -11,6 +11,9 @@ pub const PIGEONMAST: Calls = Calls {
     sky: raw::sky,
     slab: raw::slab,
     triangle: raw::triangle,
+    root: raw::root,
+    new: raw::new,
+    normals: raw::normals,
 };
 
 /// A clear line, and the status of bad usage.

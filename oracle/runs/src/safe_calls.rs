@@ -5,7 +5,7 @@ use std::num::NonZeroUsize;
 
 use compare::random::Random;
 use compare::{meshes, rays};
-use pigeonmast::{raw, Bvh, Place, Ray, Refusal, Walk};
+use pigeonmast::{raw, refill_normals, Bvh, Place, Ray, Refusal, Triangle, Walk};
 
 fn told(answer: Result<Walk, Refusal>) -> (u32, [u64; 4], [f64; 7]) {
     let walk = match answer {
@@ -29,11 +29,45 @@ fn told(answer: Result<Walk, Refusal>) -> (u32, [u64; 4], [f64; 7]) {
     }
 }
 
+/// Normals refilled through the crate's triangles, and each as `Triangle::new`.
+fn refilled(mesh: &[f64]) -> Result<(), String> {
+    let at = |n: &[f64]| [n[0], n[1], n[2]].into();
+    let mut ours: Vec<Triangle> = mesh
+        .chunks_exact(12)
+        .map(|t| Triangle {
+            v0: at(t),
+            v1: at(&t[3..]),
+            v2: at(&t[6..]),
+            normal: at(&t[9..]),
+        })
+        .collect();
+    let mut wanted = mesh.to_vec();
+    let (got, read) = (
+        refill_normals(&mut ours),
+        reading::normals::refill(&mut wanted),
+    );
+    let told = |r: pigeonmast::Refusal| (r.number(), r.at());
+    let flat: Vec<f64> = ours.iter().flat_map(Triangle::numbers).collect();
+    if got.map_err(told) != read.map_err(|r| (r.number, r.at)) {
+        return Err(format!("refill_normals {got:?}, the reading {read:?}"));
+    }
+    let bits = |list: &[f64]| list.iter().map(|x| x.to_bits()).collect::<Vec<_>>();
+    let same =
+        |t: &Triangle| bits(&t.numbers()) == bits(&Triangle::new(t.v0, t.v1, t.v2).numbers());
+    if bits(&flat) != bits(&wanted) || (got.is_ok() && !ours.iter().all(same)) {
+        return Err(
+            "refill_normals leaves other triangles than the reading, or than Triangle::new".into(),
+        );
+    }
+    Ok(())
+}
+
 fn one(seed: u64) -> Result<u64, String> {
     let mut r = Random::new(seed);
     let make = meshes::KINDS[r.below(meshes::KINDS.len())].1;
     let n = r.whole(0, 30);
     let mesh = make(&mut r, n);
+    refilled(&mesh)?;
     let read = compare::Lists::rooms(&mut r, mesh.len() / 12, 0, 0);
     let room = compare::node_room(mesh.len() / 12);
     let (mut index, mut boxes, mut links) = (read.index, vec![0.0; 6 * room], vec![0; 3 * room]);

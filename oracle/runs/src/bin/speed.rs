@@ -200,6 +200,55 @@ fn sky_on(name: &str, mesh: &[f64], r: &mut Random) {
     }
 }
 
+/// The root beside the machine's: numbers of every size, and squared lengths as
+/// a mesh has them.
+fn root_on(name: &str, numbers: &[f64]) {
+    let ns = least(
+        RUNS,
+        || {
+            for x in numbers {
+                black_box(black_box(*x).sqrt());
+            }
+        },
+        || {
+            for x in numbers {
+                black_box(raw::root(black_box(*x)));
+            }
+        },
+    );
+    let [first, second] = ns.map(|x| x / numbers.len() as f64);
+    println!(
+        "| root, {name} | {first:.1} | {second:.1} | {:.1} |",
+        second / first
+    );
+}
+
+/// A mesh's normals refilled, in place, beside the Rust's `Triangle::new` of
+/// each triangle's corners.
+fn refill_on(name: &str, mesh: &[f64]) {
+    let n = mesh.len() / 12;
+    let (mut triangles, mut lent) = (world::triangles(mesh), mesh.to_vec());
+    let ns = least(
+        RUNS,
+        || {
+            for t in black_box(&mut triangles) {
+                *t = published::triangle::Triangle::new(t.v0, t.v1, t.v2, t.material_id);
+            }
+        },
+        || {
+            let number = raw::normals(black_box(&mut lent), &mut [0]);
+            if number != 0 {
+                stop(&format!("speed: the mesh is refused: {number}"));
+            }
+        },
+    );
+    let [first, second] = ns.map(|x| x / n as f64);
+    println!(
+        "| normals, {name}, {n} triangles | {first:.1} | {second:.1} | {:.2} |",
+        second / first
+    );
+}
+
 /// How box tests grow with the mesh: the mean over rays from just above a
 /// triangle of the terrain towards a sun that stands high, and of the mixed
 /// rays of the first table.
@@ -270,6 +319,17 @@ fn main() {
     println!("|---|---:|---:|---:|");
     for (name, mesh) in &largest {
         sky_on(name, mesh, &mut r);
+    }
+
+    println!("\nns a root and ns a triangle, normals worked out; least of {RUNS} runs in turn.\n");
+    println!("| what | Rust | Pigeonmast | ratio |");
+    println!("|---|---:|---:|---:|");
+    let any: Vec<f64> = (0..RAYS).map(|_| r.scaled(-1_000, 1_000).abs()).collect();
+    root_on("numbers of any size", &any);
+    let near: Vec<f64> = (0..RAYS).map(|_| r.scaled(-20, 20).abs()).collect();
+    root_on("2^-20 to 2^20", &near);
+    for (name, mesh) in &largest {
+        refill_on(name, mesh);
     }
 
     println!("\nBox tests a ray, mean of {SKY}.\n");

@@ -1,6 +1,5 @@
 -- What is left of the range fills the bins so far to the whole, on each axis; no bin counts more than were put in. Assumes nothing.
-use mathlib.Core.Path.{_≡_}
-use Prim.Native.Nat.{_+_, _-_, _≤_}
+use Prim.Native.Nat.{_-_, _≤_}
 use native.Mathlib.Omega.{arith}
 use lib.ListN.{length, getD}
 use Rattle.triangle.specs.Mesh.{triangleAt}
@@ -9,7 +8,7 @@ use Rattle.lent.specs.Limits.{most-triangles}
 use Rattle.builder.proofs.Lanes.{lanes-up}
 use Rattle.builder.proofs.Passes.{bounds-by, centroid-by}
 use Rattle.lent.proofs.Permutation.{occ-at}
-use Rattle.builder.proofs.Three.{Ahead, ahead-again, ahead-end, ahead-start, one-more, three-more, two-more}
+use Rattle.builder.proofs.Three.{Ahead, ahead-again, ahead-end, ahead-start}
 use borrow.Author.Needs.{needs}
 use Rattle.builder.proofs.bins.fill.Statement.{statement}
 use Rattle.builder.proofs.bins.fill.Tie as tie
@@ -33,9 +32,7 @@ shared-slice-read-corners : tie.Need-shared-slice-read-corners Inv-loop μ-loop
 shared-slice-read-corners c = omega (arith, c .before .loop-test .taken)
 
 corners-requires : tie.Need-corners-requires Inv-loop μ-loop
-corners-requires c κs =
-    let s = c .before .before .before .before .before in
-    s .pre .0 _ (occ-at (s .args .index .now) (c .before .before .loop .i) (c .before .loop-test .taken))
+corners-requires c κs = c .before .before .before .before .before .pre .0 _ (occ-at (c .before .before .before .before .before .args .index .now) (c .before .before .loop .i) (c .before .loop-test .taken))
 
 centroid-requires : tie.Need-centroid-requires Inv-loop μ-loop
 centroid-requires c κs = search needs
@@ -43,76 +40,33 @@ centroid-requires c κs = search needs
 box-of-requires : tie.Need-box-of-requires Inv-loop μ-loop
 box-of-requires c κs = search needs
 
-bin-of-requires : tie.Need-bin-of-requires Inv-loop μ-loop
-bin-of-requires c κs = search needs
-
-bin-of-requires-2 : tie.Need-bin-of-requires-2 Inv-loop μ-loop
-bin-of-requires-2 c κs = search needs
-
-bin-of-requires-3 : tie.Need-bin-of-requires-3 Inv-loop μ-loop
-bin-of-requires-3 c κs = search needs
-
-put-requires : tie.Need-put-requires Inv-loop μ-loop
-put-requires c κs =
-    let l = c .before .before .before .before .before .before .before .before .before .before .before .before .before .before .before .before .before .before .before .loop in
-    let b = c .before .before .before .before .before .before .before .before .before .before .before .before .before .before .box-of .result in
-    let x = c .before .before .before .before .before .before .before .before .before .before .bin-of in
-    (omega (arith, x .ensures .1), lanes-up (l .i) most-triangles (l .boxes) (l .counts) (omega (arith, c .before .before .before .before .before .before .before .before .before .before .before .before .before .before .before .before .before .before .loop-test .taken, l .inv .3)) (l .inv .1))
-
-add-put : tie.Need-add-put Inv-loop μ-loop
-add-put c = omega (arith, c .before .before .before .before .before .before .before .before .before .bin-of2 .ensures .1)
-
-put-requires-2 : tie.Need-put-requires-2 Inv-loop μ-loop
-put-requires-2 c κs =
-    let l = c .before .before .before .before .before .before .before .before .before .before .before .before .before .before .before .before .before .before .before .before .before .before .loop in
-    let b = c .before .before .before .before .before .before .before .before .before .before .before .before .before .before .before .before .before .box-of .result in
-    let x = c .before .before .before .before .before .before .before .before .before .before .before .before .before .bin-of in
-    let p = c .before .before .put .ensures in
-    let y = c .before .before .before .before .before .before .before .before .before .bin-of2 in
-    (omega (arith, y .ensures .1), lanes-up (l .i + 1) most-triangles _ _ (omega (arith, c .before .before .before .before .before .before .before .before .before .before .before .before .before .before .before .before .before .before .before .before .before .loop-test .taken, l .inv .3)) (one-more (l .boxes) _ (l .counts) _ (x .result) (l .i) b (x .ensures .1) (l .inv .1) (record { boxes-are = p .0; counts-are = p .1 })))
-
-add-put-2 : tie.Need-add-put-2 Inv-loop μ-loop
-add-put-2 c = omega (arith, c .before .before .before .before .before .before .before .before .bin-of3 .ensures .1)
-
-put-requires-3 : tie.Need-put-requires-3 Inv-loop μ-loop
-put-requires-3 c κs =
-    let l = c .before .before .before .before .before .before .before .before .before .before .before .before .before .before .before .before .before .before .before .before .before .before .before .before .before .loop in
-    let b = c .before .before .before .before .before .before .before .before .before .before .before .before .before .before .before .before .before .before .before .before .box-of .result in
-    let x = c .before .before .before .before .before .before .before .before .before .before .before .before .before .before .before .before .bin-of in
-    let p = c .before .before .before .before .before .put .ensures in
-    let y = c .before .before .before .before .before .before .before .before .before .before .before .before .bin-of2 in
-    let q = c .before .before .put2 .ensures in
-    let z = c .before .before .before .before .before .before .before .before .bin-of3 in
-    (omega (arith, z .ensures .1), lanes-up (l .i + 1) most-triangles _ _ (omega (arith, c .before .before .before .before .before .before .before .before .before .before .before .before .before .before .before .before .before .before .before .before .before .before .before .before .loop-test .taken, l .inv .3)) (two-more (l .boxes) _ (l .counts) _ (x .result) (l .i) b (x .ensures .1) (l .inv .1) (record { boxes-are = p .0; counts-are = p .1 }) _ _ (y .result) (y .ensures .1) (record { boxes-are = q .0; counts-are = q .1 })))
+put-on-axes-requires : tie.Need-put-on-axes-requires Inv-loop μ-loop
+put-on-axes-requires c κs =
+    let l = c .before .before .before .before .before .before .before .before .before .before .before .before .before .before .before .before .loop in
+    lanes-up (l .i) most-triangles (l .boxes) (l .counts) (omega (arith, c .before .before .before .before .before .before .before .before .before .before .before .before .before .before .before .loop-test .taken, l .inv .3)) (l .inv .1)
 
 add-i : tie.Need-add-i Inv-loop μ-loop
-add-i c = omega (arith, c .before .before .before .before .before .before .before .before .before .before .before .before .before .before .before .before .before .before .before .before .before .before .before .before .before .loop-test .taken, c .before .before .before .before .before .before .before .before .before .before .before .before .before .before .before .before .before .before .before .before .before .before .before .before .before .before .loop .inv .3)
+add-i c = omega (arith, c .before .before .before .before .before .before .before .before .before .before .before .before .before .before .before .before .loop-test .taken, c .before .before .before .before .before .before .before .before .before .before .before .before .before .before .before .before .before .loop .inv .3)
 
 loop-less : tie.Need-loop-less Inv-loop μ-loop
-loop-less c = omega (arith, c .before .before .before .before .before .before .before .before .before .before .before .before .before .before .before .before .before .before .before .before .before .before .before .before .before .loop-test .taken)
+loop-less c = omega (arith, c .before .before .before .before .before .before .before .before .before .before .before .before .before .before .before .before .loop-test .taken)
 
 loop-again : tie.Need-loop-again Inv-loop μ-loop
 loop-again c =
-    let a = c .before .before .before .before .before .before .before .before .before .before .before .before .before .before .before .before .before .before .before .before .before .before .before .before .before .before .before .before .before .args in
-    let t = c .before .before .before .before .before .before .before .before .before .before .before .before .before .before .before .before .before .before .before .before .before .before .before .corners in
-    let m = c .before .before .before .before .before .before .before .before .before .before .before .before .before .before .before .before .before .before .before .before .before .before .centroid in
-    let u = c .before .before .before .before .before .before .before .before .before .before .before .before .before .before .before .before .before .before .before .before .before .box-of in
-    let h = c .before .before .before .before .before .before .before .before .before .before .before .before .before .before .before .before .before .before .before .before .before .before .before .before .before .loop-test .taken in
-    let l = c .before .before .before .before .before .before .before .before .before .before .before .before .before .before .before .before .before .before .before .before .before .before .before .before .before .before .loop in
-    let b = c .before .before .before .before .before .before .before .before .before .before .before .before .before .before .before .before .before .before .before .before .before .box-of .result in
-    let x = c .before .before .before .before .before .before .before .before .before .before .before .before .before .before .before .before .before .bin-of in
-    let p = c .before .before .before .before .before .before .put .ensures in
-    let y = c .before .before .before .before .before .before .before .before .before .before .before .before .before .bin-of2 in
-    let q = c .before .before .before .put2 .ensures in
-    let z = c .before .before .before .before .before .before .before .before .before .bin-of3 in
-    let r = c .put3 .ensures in
+    let a = c .before .before .before .before .before .before .before .before .before .before .before .before .before .before .before .before .before .before .before .before .args in
+    let t = c .before .before .before .before .before .before .before .before .before .before .before .before .before .before .corners in
+    let m = c .before .before .before .before .before .before .before .before .before .before .before .before .before .centroid in
+    let u = c .before .box-of in
+    let h = c .before .before .before .before .before .before .before .before .before .before .before .before .before .before .before .before .loop-test .taken in
+    let l = c .before .before .before .before .before .before .before .before .before .before .before .before .before .before .before .before .before .loop in
+    let p = c .put-on-axes .ensures in
     let i = getD (a .index .now) (l .i) 0 in (
       omega (arith, h),
-      three-more (l .boxes) _ (l .counts) _ (x .result) (l .i) b (x .ensures .1) (l .inv .1) (record { boxes-are = p .0; counts-are = p .1 }) _ _ (y .result) (y .ensures .1) (record { boxes-are = q .0; counts-are = q .1 }) _ _ (z .result) (z .ensures .1) (record { boxes-are = r .0; counts-are = r .1 }),
-      ahead-again (l .boxes) _ (l .counts) _ (x .result) (l .i) b (x .ensures .1) (l .inv .1) (record { boxes-are = p .0; counts-are = p .1 }) _ _ (y .result) (y .ensures .1) (record { boxes-are = q .0; counts-are = q .1 }) _ _ (z .result) (z .ensures .1) (record { boxes-are = r .0; counts-are = r .1 }) (a .triangles .now) (a .min) (a .scale) (a .index .now) (l .i) (m .result) h
+      p .most (l .i) (l .inv .1),
+      ahead-again (a .triangles .now) (a .min) (a .scale) (a .index .now) (l .i) (l .boxes) _ (l .counts) _ (m .result) (u .result) h
           (centroid-by (triangleAt (a .triangles .now) i) (t .result .v0) (t .result .v1) (t .result .v2) (m .result) (t .ensures .0) (t .ensures .1) (t .ensures .2) (m .ensures))
-          (bounds-by (a .triangles .now) i (t .result .v0) (t .result .v1) (t .result .v2) b (t .ensures .0) (t .ensures .1) (t .ensures .2) (u .ensures))
-          (x .ensures .0) (y .ensures .0) (z .ensures .0) (l .inv .2),
+          (bounds-by (a .triangles .now) i (t .result .v0) (t .result .v1) (t .result .v2) (u .result) (t .ensures .0) (t .ensures .1) (t .ensures .2) (u .ensures))
+          p (l .inv .2),
       l .inv .3,
     )
 
@@ -134,14 +88,7 @@ fill-spec =
     corners-requires
     centroid-requires
     box-of-requires
-    bin-of-requires
-    bin-of-requires-2
-    bin-of-requires-3
-    put-requires
-    add-put
-    put-requires-2
-    add-put-2
-    put-requires-3
+    put-on-axes-requires
     add-i
     loop-less
     loop-again

@@ -1,5 +1,6 @@
 -- The box that stands there is clear, so `joined` gives the union. Assumes nothing.
 use mathlib.Core.Path.{refl}
+use Prim.Native.Nat.{_+_}
 use native.Mathlib.Omega.{arith}
 use Rattle.lent.specs.Limits.{most-triangles}
 use Rattle.builder.proofs.Lanes.{union-put}
@@ -13,7 +14,7 @@ add-counts c = let s = c .before .before .before .before .before .before .before
 returns : tie.Need-returns
 returns c =
     let s = c .before .before .before .before .before .before .before in
-    (union-put most-triangles (s .args .boxes .now) _ (s .args .counts .now) (s .args .k) (s .args .b) _ _ (s .pre .0) (s .pre .1) (c .before .before .before .before .read .ensures) (c .before .before .joined .ensures) (c .before .put-box .ensures), refl)
+    (union-put (most-triangles + 1) (s .args .boxes .now) _ (s .args .counts .now) (s .args .k) (s .args .b) _ _ (s .pre .0) (s .pre .1) (c .before .before .before .before .read .ensures) (c .before .before .joined .ensures) (c .before .put-box .ensures), refl)
 
 pub put-spec : {M : Type 1} → statement M
 put-spec =

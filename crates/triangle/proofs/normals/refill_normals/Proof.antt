@@ -1,14 +1,19 @@
--- Each return is a line of the refusals, or the mesh that is filled. Assumes nothing.
+-- Each return is a step of the ladder, or the mesh that is filled. Assumes nothing.
+use mathlib.Core.Path.{refl}
 use borrow.Author.Needs.{needs}
-use Rattle.triangle.proofs.Refilling.{refill-1, refill-2, refill-5, refill-done}
+use Rattle.lent.proofs.Ladder.{ends, stops, goes, differ, agree, below}
+use Rattle.triangle.specs.Refilled.{refilled}
+use Rattle.triangle.proofs.Refilling.{refill-5, refill-done}
 use Rattle.triangle.proofs.normals.refill_normals.Statement.{statement}
 use Rattle.triangle.proofs.normals.refill_normals.Tie as tie
 
 returns : tie.Need-returns
-returns c = refill-1 (c .before .before .args .mesh .now) (c .if1 .taken)
+unfolding refilled
+returns c = ends (stops (differ (c .if1 .taken)) refl)
 
 returns-2 : tie.Need-returns-2
-returns-2 c = refill-2 (c .before .before .before .args .mesh .now) (c .before .if1 .left) (c .if2 .taken)
+unfolding refilled
+returns-2 c = ends (goes (agree (c .before .if1 .left)) (stops (below (c .if2 .taken)) refl))
 
 first-refused-requires : tie.Need-first-refused-requires
 first-refused-requires c κs = search needs
