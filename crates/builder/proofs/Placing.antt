@@ -3,15 +3,16 @@ use mathlib.Core.Path.{_≡_, refl, _∙_, ap, subst⁻¹}
 use Prim.Native.Nat.{ℕ, _+_, _*_, _/_, _≤_, _<_}
 use native.Mathlib.Omega.{arith}
 use mathlib.Core.Logic.{_⊎_, inl, inr, ⊎-elim}
-use mathlib.Core.List.{List}
-use lib.ListN.{length, getD, set, length-set}
-use lib.Seq.{getD-set-same, getD-set-other}
+use mathlib.Core.List.{List, [], _∷_}
+use lib.ListN.{length, getD}
 use lib.Ieee.{Float, nan}
+use Rattle.lent.specs.Flat.{put}
+use Rattle.lent.proofs.Flat.{put-here, put-elsewhere, length-put}
 use Rattle.float.proofs.Cases.{low-or-high}
 use Rattle.aabb.specs.Bounds.{boxAt}
 use Rattle.aabb.specs.Vector.{vectorAt}
 use Rattle.aabb.specs.declared.bounds.Aabb.{Aabb}
-use Rattle.builder.specs.Layout.{boxPut, boxesOf, linkPut, linksOf}
+use Rattle.builder.specs.Layout.{boxNumbers, boxPut, boxesOf, linkPut, linksOf}
 use Rattle.tree.specs.Lent.{Lists, listsOf}
 use Rattle.tree.specs.Node.{linked, nodeAt, leftOf, rightOf}
 use Rattle.tree.specs.Holds.{Holds, ChildOf, OnlyChild}
@@ -77,112 +78,46 @@ same-numbers bs bs′ ls ls′ i f g = record {
 }
 
 module _ (bs : List Float) (n : ℕ) (b : Aabb) where
-  abbrev s1 : List Float
-  s1 = set bs (n * 6) (b .min .x)
-
-  abbrev s2 : List Float
-  s2 = set s1 (n * 6 + 1) (b .min .y)
-
-  abbrev s3 : List Float
-  s3 = set s2 (n * 6 + 2) (b .min .z)
-
-  abbrev s4 : List Float
-  s4 = set s3 (n * 6 + 3) (b .max .x)
-
-  abbrev s5 : List Float
-  s5 = set s4 (n * 6 + 4) (b .max .y)
-
   pub box-other : (k : ℕ) → (k < n * 6) ⊎ (n * 6 + 6 ≤ k) → getD (boxPut bs n b) k nan ≡ getD bs k nan
   unfolding boxPut
-  box-other k far =
-      getD-set-other s5 (n * 6 + 5) k (b .max .z) nan (λ e. ne (n * 6 + 5) (omega arith) (omega arith) e)
-      ∙ getD-set-other s4 (n * 6 + 4) k (b .max .y) nan (λ e. ne (n * 6 + 4) (omega arith) (omega arith) e)
-      ∙ getD-set-other s3 (n * 6 + 3) k (b .max .x) nan (λ e. ne (n * 6 + 3) (omega arith) (omega arith) e)
-      ∙ getD-set-other s2 (n * 6 + 2) k (b .min .z) nan (λ e. ne (n * 6 + 2) (omega arith) (omega arith) e)
-      ∙ getD-set-other s1 (n * 6 + 1) k (b .min .y) nan (λ e. ne (n * 6 + 1) (omega arith) (omega arith) e)
-      ∙ getD-set-other bs (n * 6) k (b .min .x) nan (λ e. ne (n * 6) (omega arith) (omega arith) e)
+  box-other k far = put-elsewhere 6 bs n (boxNumbers b) k nan far
+
+  pub box-here : n * 6 + 6 ≤ length bs → boxAt (boxPut bs n b) n ≡ b
+  unfolding boxPut boxAt vectorAt
+  box-here h =
+      rw (
+        at (n * 6) 0 (omega arith) (omega arith),
+        at (n * 6 + 1) 1 (omega arith) refl,
+        at (n * 6 + 2) 2 (omega arith) refl,
+        at (n * 6 + 3) 3 (omega arith) refl,
+        at (n * 6 + 3 + 1) 4 (omega arith) (omega arith),
+        at (n * 6 + 3 + 2) 5 (omega arith) (omega arith),
+      )
     where
-      ne : (a : ℕ) → n * 6 ≤ a → a < n * 6 + 6 → k ≡ a → ⊥
-      ne a p q e = ⊎-elim (λ u. omega arith) (λ u. omega arith) far
-
-  module _ (h : n * 6 + 6 ≤ length bs) where
-    at-0 : getD (boxPut bs n b) (n * 6) nan ≡ b .min .x
-    unfolding boxPut
-    at-0 =
-        getD-set-other s5 (n * 6 + 5) (n * 6) (b .max .z) nan (λ e. omega arith) ∙ getD-set-other s4 (n * 6 + 4) (n * 6) (b .max .y) nan (λ e. omega arith)
-        ∙ getD-set-other s3 (n * 6 + 3) (n * 6) (b .max .x) nan (λ e. omega arith) ∙ getD-set-other s2 (n * 6 + 2) (n * 6) (b .min .z) nan (λ e. omega arith)
-        ∙ getD-set-other s1 (n * 6 + 1) (n * 6) (b .min .y) nan (λ e. omega arith) ∙ getD-set-same bs (n * 6) (b .min .x) nan (omega arith)
-
-    at-1 : getD (boxPut bs n b) (n * 6 + 1) nan ≡ b .min .y
-    unfolding boxPut
-    at-1 =
-        getD-set-other s5 (n * 6 + 5) (n * 6 + 1) (b .max .z) nan (λ e. omega arith) ∙ getD-set-other s4 (n * 6 + 4) (n * 6 + 1) (b .max .y) nan (λ e. omega arith)
-        ∙ getD-set-other s3 (n * 6 + 3) (n * 6 + 1) (b .max .x) nan (λ e. omega arith) ∙ getD-set-other s2 (n * 6 + 2) (n * 6 + 1) (b .min .z) nan (λ e. omega arith)
-        ∙ getD-set-same s1 (n * 6 + 1) (b .min .y) nan (simp length-set (omega arith))
-
-    at-2 : getD (boxPut bs n b) (n * 6 + 2) nan ≡ b .min .z
-    unfolding boxPut
-    at-2 =
-        getD-set-other s5 (n * 6 + 5) (n * 6 + 2) (b .max .z) nan (λ e. omega arith) ∙ getD-set-other s4 (n * 6 + 4) (n * 6 + 2) (b .max .y) nan (λ e. omega arith)
-        ∙ getD-set-other s3 (n * 6 + 3) (n * 6 + 2) (b .max .x) nan (λ e. omega arith) ∙ getD-set-same s2 (n * 6 + 2) (b .min .z) nan (simp length-set (omega arith))
-
-    at-3 : getD (boxPut bs n b) (n * 6 + 3) nan ≡ b .max .x
-    unfolding boxPut
-    at-3 =
-        getD-set-other s5 (n * 6 + 5) (n * 6 + 3) (b .max .z) nan (λ e. omega arith) ∙ getD-set-other s4 (n * 6 + 4) (n * 6 + 3) (b .max .y) nan (λ e. omega arith)
-        ∙ getD-set-same s3 (n * 6 + 3) (b .max .x) nan (simp length-set (omega arith))
-
-    at-4 : getD (boxPut bs n b) (n * 6 + 3 + 1) nan ≡ b .max .y
-    unfolding boxPut
-    at-4 =
-        getD-set-other s5 (n * 6 + 5) (n * 6 + 3 + 1) (b .max .z) nan (λ e. omega arith)
-        ∙ ap (λ (k : ℕ). getD (set s4 (n * 6 + 4) (b .max .y)) k nan) (second n) ∙ getD-set-same s4 (n * 6 + 4) (b .max .y) nan (simp length-set (omega arith))
-
-    at-5 : getD (boxPut bs n b) (n * 6 + 3 + 2) nan ≡ b .max .z
-    unfolding boxPut
-    at-5 = ap (λ (k : ℕ). getD (set s5 (n * 6 + 5) (b .max .z)) k nan) (third n) ∙ getD-set-same s5 (n * 6 + 5) (b .max .z) nan (simp length-set (omega arith))
-
-    pub box-here : boxAt (boxPut bs n b) n ≡ b
-    unfolding boxAt vectorAt
-    box-here = rw (at-0, at-1, at-2, at-3, at-4, at-5)
+      at : (p k : ℕ) → k < 6 → p ≡ n * 6 + k → getD (put 6 bs n (boxNumbers b)) p nan ≡ getD (boxNumbers b) k nan
+      at p k l e = put-here 6 bs n (boxNumbers b) p k nan h l e
 
 module _ (ls : List ℕ) (n f c k : ℕ) where
   pub link-other : (i : ℕ) → (i < n * 3) ⊎ (n * 3 + 3 ≤ i) → getD (linkPut ls n f c k) i 0 ≡ getD ls i 0
   unfolding linkPut
-  link-other i far =
-      getD-set-other (set (set ls (n * 3) f) (n * 3 + 1) c) (n * 3 + 2) i k 0 (λ e. ne (n * 3 + 2) (omega arith) (omega arith) e)
-      ∙ getD-set-other (set ls (n * 3) f) (n * 3 + 1) i c 0 (λ e. ne (n * 3 + 1) (omega arith) (omega arith) e)
-      ∙ getD-set-other ls (n * 3) i f 0 (λ e. ne (n * 3) (omega arith) (omega arith) e)
-    where
-      ne : (a : ℕ) → n * 3 ≤ a → a < n * 3 + 3 → i ≡ a → ⊥
-      ne a p q e = ⊎-elim (λ u. omega arith) (λ u. omega arith) far
+  link-other i far = put-elsewhere 3 ls n (f ∷ c ∷ k ∷ []) i 0 far
 
-  module _ (h : n * 3 + 3 ≤ length ls) where
-    link-first : firstAt (linkPut ls n f c k) n ≡ f
-    unfolding linkPut
-    link-first =
-        getD-set-other (set (set ls (n * 3) f) (n * 3 + 1) c) (n * 3 + 2) (n * 3) k 0 (λ e. omega arith) ∙ getD-set-other (set ls (n * 3) f) (n * 3 + 1) (n * 3) c 0 (λ e. omega arith)
-        ∙ getD-set-same ls (n * 3) f 0 (omega arith)
-
-    link-count : countAt (linkPut ls n f c k) n ≡ c
-    unfolding linkPut
-    link-count = getD-set-other (set (set ls (n * 3) f) (n * 3 + 1) c) (n * 3 + 2) (n * 3 + 1) k 0 (λ e. omega arith) ∙ getD-set-same (set ls (n * 3) f) (n * 3 + 1) c 0 (simp length-set (omega arith))
-
-    link-kind : kindAt (linkPut ls n f c k) n ≡ k
-    unfolding linkPut
-    link-kind = getD-set-same (set (set ls (n * 3) f) (n * 3 + 1) c) (n * 3 + 2) k 0 (simp length-set (omega arith))
+  -- number j of the three
+  link-here : (p j : ℕ) → n * 3 + 3 ≤ length ls → j < 3 → p ≡ n * 3 + j → getD (linkPut ls n f c k) p 0 ≡ getD (f ∷ c ∷ k ∷ []) j 0
+  unfolding linkPut
+  link-here p j h l e = put-here 3 ls n (f ∷ c ∷ k ∷ []) p j 0 h l e
 
 put-node : (bs : List Float) (ls : List ℕ) (n : ℕ) (b : Aabb) (f c k : ℕ) → n * 6 + 6 ≤ length bs → n * 3 + 3 ≤ length ls → NodeIs (boxPut bs n b) (linkPut ls n f c k) n b f c k
-put-node bs ls n b f c k h g = record { box-is = box-here bs n b h; first-is = link-first ls n f c k g; count-is = link-count ls n f c k g; kind-is = link-kind ls n f c k g }
+put-node bs ls n b f c k h g = record { box-is = box-here bs n b h; first-is = link-here ls n f c k (n * 3) 0 g (omega arith) (omega arith); count-is = link-here ls n f c k (n * 3 + 1) 1 g (omega arith) refl; kind-is = link-here ls n f c k (n * 3 + 2) 2 g (omega arith) refl }
 
 -- ---- lengths
 pub box-length : (bs : List Float) (n : ℕ) (b : Aabb) → length (boxPut bs n b) ≡ length bs
 unfolding boxPut
-box-length bs n b = simp length-set
+box-length bs n b = length-put 6 bs n (boxNumbers b)
 
 link-length : (ls : List ℕ) (n f c k : ℕ) → length (linkPut ls n f c k) ≡ length ls
 unfolding linkPut
-link-length ls n f c k = simp length-set
+link-length ls n f c k = length-put 3 ls n (f ∷ c ∷ k ∷ [])
 
 pub boxes-length : (t : Tree) (node next : ℕ) (bs : List Float) → length (boxesOf t node next bs) ≡ length bs
 unfolding boxesOf

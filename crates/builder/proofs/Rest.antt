@@ -2,23 +2,21 @@
 use mathlib.Core.Path.{_≡_, _∙_}
 use Prim.Native.Nat.{ℕ, _+_, _*_, _≤_, _<_}
 use native.Mathlib.Omega.{arith}
-use mathlib.Core.List.{List}
+use mathlib.Core.List.{List, [], _∷_}
 use lib.ListN.{drop}
-use lib.Seq.{drop-set-lt}
 use lib.Ieee.{Float}
+use Rattle.lent.proofs.Flat.{put-rest}
 use Rattle.aabb.specs.declared.bounds.Aabb.{Aabb}
-use Rattle.builder.specs.Layout.{boxPut, boxesOf, linkPut, linksOf}
+use Rattle.builder.specs.Layout.{boxNumbers, boxPut, boxesOf, linkPut, linksOf}
 use Rattle.tree.specs.Tree.{Tree, below, internal, leaf}
 
 box-rest : (k : ℕ) (bs : List Float) (node : ℕ) (b : Aabb) → node * 6 + 6 ≤ k → drop k (boxPut bs node b) ≡ drop k bs
 unfolding boxPut
-box-rest k bs node b h =
-    drop-set-lt k _ (node * 6 + 5) (b .max .z) (omega arith) ∙ drop-set-lt k _ (node * 6 + 4) (b .max .y) (omega arith) ∙ drop-set-lt k _ (node * 6 + 3) (b .max .x) (omega arith)
-    ∙ drop-set-lt k _ (node * 6 + 2) (b .min .z) (omega arith) ∙ drop-set-lt k _ (node * 6 + 1) (b .min .y) (omega arith) ∙ drop-set-lt k bs (node * 6) (b .min .x) (omega arith)
+box-rest k bs node b h = put-rest 6 bs node (boxNumbers b) k h
 
 link-rest : (k : ℕ) (ls : List ℕ) (node f c t : ℕ) → node * 3 + 3 ≤ k → drop k (linkPut ls node f c t) ≡ drop k ls
 unfolding linkPut
-link-rest k ls node f c t h = drop-set-lt k _ (node * 3 + 2) t (omega arith) ∙ drop-set-lt k _ (node * 3 + 1) c (omega arith) ∙ drop-set-lt k ls (node * 3) f (omega arith)
+link-rest k ls node f c t h = put-rest 3 ls node (f ∷ c ∷ t ∷ []) k h
 
 pub boxes-rest : (k : ℕ) (t : Tree) (node next : ℕ) (bs : List Float) → node < next → (next + below t) * 6 ≤ k → drop k (boxesOf t node next bs) ≡ drop k bs
 unfolding boxesOf

@@ -1,10 +1,10 @@
 -- A tree laid out in the lent lists: its root at `node`, what is below it from `next` on. Definitions only.
-use Prim.Native.Nat.{ℕ, _+_, _*_}
+use Prim.Native.Nat.{ℕ, _+_}
 use mathlib.Core.Path.{_≡_}
 use mathlib.Core.Option.{Option, none, some}
-use mathlib.Core.List.{List}
-use lib.ListN.{set}
+use mathlib.Core.List.{List, [], _∷_}
 use lib.Ieee.{Float}
+use Rattle.lent.specs.Flat.{put}
 use Rattle.aabb.specs.declared.bounds.Aabb.{Aabb}
 use Rattle.builder.specs.declared.division.Made.{Made}
 use Rattle.builder.specs.declared.division.Made.the-variants.{Next, Deep}
@@ -12,13 +12,15 @@ use Rattle.tree.specs.Tree.{Tree, leaf, internal, below}
 use Rattle.builder.specs.Tree.{Grown}
 
 -- six f64: min x, y, z, max x, y, z
+abbrev pub boxNumbers : Aabb → List Float
+boxNumbers b = b .min .x ∷ b .min .y ∷ b .min .z ∷ b .max .x ∷ b .max .y ∷ b .max .z ∷ []
+
 unfoldable pub boxPut : List Float → ℕ → Aabb → List Float
-boxPut boxes node b =
-    set (set (set (set (set (set boxes (node * 6) (b .min .x)) (node * 6 + 1) (b .min .y)) (node * 6 + 2) (b .min .z)) (node * 6 + 3) (b .max .x)) (node * 6 + 4) (b .max .y)) (node * 6 + 5) (b .max .z)
+boxPut boxes node b = put 6 boxes node (boxNumbers b)
 
 -- three u32: `left_or_first`, `count`, kind: 1 leaf, 0 internal
 unfoldable pub linkPut : List ℕ → ℕ → ℕ → ℕ → ℕ → List ℕ
-linkPut links node left-or-first count kind = set (set (set links (node * 3) left-or-first) (node * 3 + 1) count) (node * 3 + 2) kind
+linkPut links node left-or-first count kind = put 3 links node (left-or-first ∷ count ∷ kind ∷ [])
 
 -- Children take the next two node numbers, the left one is divided wholly before the right
 unfoldable pub boxesOf : Tree → ℕ → ℕ → List Float → List Float

@@ -11,9 +11,6 @@ ghost use Rattle.builder.specs.Tree.{grow};
 ghost use Rattle.builder.specs.Range.{Numbered};
 ghost use Rattle.builder.specs.Layout.{Divided};
 
-// No node is deeper (the root's depth is 0).
-pub const DEEPEST: usize = 63;
-
 // The next free node number, or that the tree is too deep.
 pub enum Made {
     Next(usize),

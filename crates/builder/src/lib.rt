@@ -85,7 +85,7 @@ fn make(
         0,
         0,
         1,
-        division::DEEPEST,
+        lent::DEEPEST,
     );
     let Made::Next(nodes) = made else {
         start::clear(index);

@@ -55,6 +55,15 @@ module _ {A : Type 0} where
   unfolding put
   put-elsewhere width list i vs p d far = sets-other vs list (i * width) p d far
 
+  -- ---- what stands behind stays
+  sets-rest : (vs list : List A) (i k : ℕ) → i + length vs ≤ k → drop k (sets list i vs) ≡ drop k list
+  sets-rest [] list i k h = refl
+  sets-rest (v ∷ vs) list i k h = sets-rest vs (set list i v) (suc i) k (omega arith) ∙ drop-set-lt k list i v (omega arith)
+
+  pub put-rest : (width : ℕ) (list : List A) (i : ℕ) (vs : List A) (k : ℕ) → i * width + length vs ≤ k → drop k (put width list i vs) ≡ drop k list
+  unfolding put
+  put-rest width list i vs k h = sets-rest vs list (i * width) k h
+
   -- ---- record by record
   part-set : (list : List A) (p : ℕ) (v : A) (at width : ℕ) → (p < at) ⊎ (at + width ≤ p) → take width (drop at (set list p v)) ≡ take width (drop at list)
   part-set list p v at width (inl h) = ap (λ (l : List A). take width l) (drop-set-lt at list p v h)

@@ -1,7 +1,7 @@
 -- Six stores, in the definition's order. Assumes nothing.
-use mathlib.Core.Path.{refl}
 use native.Mathlib.Omega.{arith}
 use lib.ListN.{length-set}
+use Rattle.lent.proofs.Flat.{written}
 use Rattle.builder.specs.Layout.{boxPut}
 use borrow.Author.Needs.{needs}
 use Rattle.builder.proofs.nodes.put_box.Statement.{statement}
@@ -9,7 +9,7 @@ use Rattle.builder.proofs.nodes.put_box.Tie as tie
 
 returns : tie.Need-returns
 unfolding boxPut
-returns c = refl
+returns c = written 6 _ _ _ _
 
 pub put-box-spec : {M : Type 1} → statement M
 put-box-spec =

@@ -1,7 +1,7 @@
 -- Three stores, in the definition's order. Assumes nothing.
-use mathlib.Core.Path.{refl}
 use native.Mathlib.Omega.{arith}
 use lib.ListN.{length-set}
+use Rattle.lent.proofs.Flat.{written}
 use Rattle.builder.specs.Layout.{linkPut}
 use borrow.Author.Needs.{needs}
 use Rattle.builder.proofs.nodes.put_link.Statement.{statement}
@@ -9,7 +9,7 @@ use Rattle.builder.proofs.nodes.put_link.Tie as tie
 
 returns : tie.Need-returns
 unfolding linkPut
-returns c = refl
+returns c = written 3 _ _ _ _
 
 pub put-link-spec : {M : Type 1} → statement M
 put-link-spec =
