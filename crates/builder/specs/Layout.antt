@@ -1,4 +1,4 @@
--- A tree laid out in the lent lists: its root at `node`, what is below it from `next` on. Definitions only.
+-- A tree laid out in the lent lists (rules C6 and C7): its root at `node`, what is below it from `next` on. Definitions only.
 use Prim.Native.Nat.{ℕ, _+_, _*_}
 use mathlib.Core.Path.{_≡_}
 use mathlib.Core.Option.{Option, none, some}
@@ -11,16 +11,16 @@ use Rattle.builder.specs.declared.division.Made.the-variants.{Next, Deep
 use Rattle.tree.specs.Tree.{Tree, leaf, internal, below}
 use Rattle.builder.specs.Tree.{Grown}
 
--- six f64: min x, y, z, max x, y, z
+-- Rule C7: a node's box, six numbers, min before max
 unfoldable pub boxPut : List Float → ℕ → Aabb → List Float
 boxPut boxes node b =
     set (set (set (set (set (set boxes (node * 6) (b .min .x)) (node * 6 + 1) (b .min .y)) (node * 6 + 2) (b .min .z)) (node * 6 + 3) (b .max .x)) (node * 6 + 4) (b .max .y)) (node * 6 + 5) (b .max .z)
 
--- three u32: `left_or_first`, `count`, kind: 1 leaf, 0 internal
+-- Rule C7: its three links
 unfoldable pub linkPut : List ℕ → ℕ → ℕ → ℕ → ℕ → List ℕ
 linkPut links node left-or-first count kind = set (set (set links (node * 3) left-or-first) (node * 3 + 1) count) (node * 3 + 2) kind
 
--- Children take the next two node numbers, the left one is divided wholly before the right
+-- Rule C6: two numbers for the children, then all that is below the left one, then what is below the right one
 unfoldable pub boxesOf : Tree → ℕ → ℕ → List Float → List Float
 boxesOf (leaf b f c) node next boxes = boxPut boxes node b
 boxesOf (internal b l r) node next boxes = boxesOf r (next + 1) (next + 2 + below l) (boxesOf l next (next + 2) (boxPut boxes node b))
