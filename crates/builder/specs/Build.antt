@@ -1,19 +1,16 @@
 -- What a build answers and leaves in the lent lists, on every input (rules C1, C8, C9). Definitions only.
 use Prim.Native.Nat.{ℕ, zero, suc, _+_, _*_, _/_}
-use mathlib.Core.Bool.{true, false}
 use mathlib.Core.Option.{Option, none, some}
 use mathlib.Core.List.{List, [], _∷_, _++_}
 use lib.ListN.{length, drop, replicate}
 use lib.Dec.{ltb}
 use lib.Ieee.{Float}
 use Rattle.float.specs.Number.{nought}
-use Rattle.triangle.specs.declared.Unadmitted.{Unadmitted}
-use Rattle.triangle.specs.declared.Unadmitted.the-variants.{At, Nothing}
-use Rattle.triangle.specs.Mesh.{firstRefused}
+use Rattle.triangle.specs.Mesh.{firstRefused, unadmitted}
 use Rattle.builder.specs.declared.Built.{Built}
 use Rattle.builder.specs.declared.Built.the-variants.{Tree as Grew, Refused}
 use Rattle.lent.specs.Limits.{deepest}
-use Rattle.lent.specs.Ladder.{Check, check, unless, triangleCount, ragged, crowded}
+use Rattle.lent.specs.Ladder.{check, unless, triangleCount, ragged, crowded}
 use Rattle.lent.specs.Permutation.{upTo}
 use Rattle.tree.specs.Tree.{below, leaves}
 use Rattle.builder.specs.Tree.{Grown, grow}
@@ -38,11 +35,6 @@ room (suc n) = 2 * n + 1
 unfoldable pub finished : ℕ → Option Grown → List ℕ → List Float → List ℕ → Outcome
 finished n none index boxes links = outcome (Refused 6 0) (replicate (length index) 0) (replicate (length boxes) nought) (replicate (length links) 0)
 finished n (some g) index boxes links = outcome (Grew (1 + below (g .tree)) (leaves (g .tree))) (g .ids ++ drop n index) (boxesOf (g .tree) 0 1 boxes) (linksOf (g .tree) 0 1 links)
-
--- Refusal 5, with the lowest number
-unfoldable pub unadmitted : Unadmitted → Check
-unadmitted (At i) = check true 5 i
-unadmitted Nothing = check false 5 0
 
 -- The ladder of a build: 1 to 5, the first that applies, and nothing is written; then rule C1 and the division
 unfoldable pub built : List Float → List ℕ → List Float → List ℕ → Outcome

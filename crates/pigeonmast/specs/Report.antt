@@ -5,7 +5,6 @@ use mathlib.Core.List.{List, [], _∷_}
 use lib.Ieee.{Float}
 use Rattle.aabb.specs.declared.slab.Span.{Span}
 use Rattle.aabb.specs.declared.slab.Span.the-variants.{Passed, Missed}
-use Rattle.aabb.specs.Vector.{vectorAt}
 use Rattle.triangle.specs.declared.Triangle.{Triangle}
 use Rattle.triangle.specs.declared.Hit.{Hit}
 use Rattle.triangle.specs.declared.Found.{Found}

@@ -8,11 +8,9 @@ use lib.Ieee.{Float}
 use Rattle.lent.specs.Ladder.{unless, triangleCount, ragged, crowded}
 use Rattle.aabb.specs.declared.vector.Vec3.{Vec3}
 use Rattle.aabb.specs.Vector.{numberAt}
-use Rattle.triangle.specs.declared.Unadmitted.{Unadmitted}
-use Rattle.triangle.specs.declared.Unadmitted.the-variants.{At, Nothing}
 use Rattle.triangle.specs.declared.normals.Refill.{Refill}
 use Rattle.triangle.specs.declared.normals.Refill.the-variants.{Done, Refused}
-use Rattle.triangle.specs.Mesh.{triangleAt, admittedTriangle, firstRefused}
+use Rattle.triangle.specs.Mesh.{triangleAt, admittedTriangle, firstRefused, unadmitted}
 use Rattle.triangle.specs.Normal.{normalOf, newTriangle}
 
 -- the answer, and what the mesh holds at the end
@@ -40,15 +38,11 @@ unfoldable pub filledFrom : List Float → ℕ → ℕ → List Float
 filledFrom mesh i zero = mesh
 filledFrom mesh i (suc k) = filledFrom (filled mesh i) (suc i) k
 
-unfoldable pub checked : List Float → Unadmitted → Outcome
-checked mesh (At i) = outcome (Refused 5 i) mesh
-checked mesh Nothing = outcome Done (filledFrom mesh 0 (triangleCount mesh))
-
 -- Rule T7, after the refusals: 1, 2, then 5 with the lowest number, none of which writes
 unfoldable pub refilled : List Float → Outcome
 refilled mesh =
-    unless (ragged mesh ∷ crowded mesh ∷ []) (λ number at. outcome (Refused number at) mesh)
-    (checked mesh (firstRefused mesh 0 (triangleCount mesh)))
+    unless (ragged mesh ∷ crowded mesh ∷ unadmitted (firstRefused mesh 0 (triangleCount mesh)) ∷ []) (λ number at. outcome (Refused number at) mesh)
+    (outcome Done (filledFrom mesh 0 (triangleCount mesh)))
 
 -- What a call that is served leaves in the mesh: as many numbers, those of the corners bit for bit, each triangle the one that its corners give, all of them admitted, and nothing that a second call would change
 pub record Renewed (before after : List Float) : Type 0 where
