@@ -10,7 +10,7 @@ pub struct Aabb {
 }
 
 impl Aabb {
-    /// The empty box: +inf three times, -inf three times.
+    /// The empty box: each min is +inf, each max -inf.
     #[must_use]
     pub const fn empty() -> Self {
         let (most, least) = (f64::INFINITY, f64::NEG_INFINITY);

@@ -34,8 +34,8 @@ pub fn abi() -> u32 {
 /// Builds the tree of `triangles`, twelve numbers each, into the lent buffers.
 ///
 /// Answers 0 with `told` = node count, leaf count; or the refusal's number with
-/// `told` = at, 0. Refusals 1 to 5 leave the buffers unchanged, 6 sets every
-/// number of them to zero.
+/// `told` = at, 0. Refusals 1 to 5 leave the buffers unchanged, 6 leaves
+/// zeros in all of them.
 ///
 /// ```
 /// // No triangles: one leaf with the empty box.
@@ -173,8 +173,8 @@ pub fn triangle(triangle: &[f64; 12], ray: &[f64; 6], numbers: &mut [f64; 7]) ->
     unsafe { ffi::pigeonmast_triangle(triangle, ray, numbers) }
 }
 
-/// The square root, rounded to nearest even: -0 gives -0, +inf itself, and a NaN
-/// or a number below zero a NaN. Answers on every number.
+/// The square root, rounded to nearest. Of a zero and of +inf it is the number
+/// itself; of a NaN, and of whatever is below zero, a NaN.
 ///
 /// ```
 /// assert_eq!(pigeonmast::raw::root(2.0), 2.0_f64.sqrt());

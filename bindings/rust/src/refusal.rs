@@ -32,7 +32,7 @@ pub enum Refusal {
     /// (of the direction).
     RayNotAdmitted,
     /// 8: the lists of nodes do not fit one another: no links, links not in
-    /// threes, more than 131,071 nodes, or boxes not twice as long as links.
+    /// threes, more than 131,071 nodes, or not six numbers of box for each.
     NodeLists,
     /// 9: a walk met a node that cannot be one.
     BadNode {

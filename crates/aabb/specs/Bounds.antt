@@ -1,4 +1,4 @@
--- Axis-aligned boxes. Definitions only.
+-- Axis-aligned boxes (rules B1 to B7, N4). Definitions only.
 use Prim.Native.Nat.{ℕ, _+_, _*_}
 use mathlib.Core.Bool.{Bool, _&&_, _||_, cond}
 use mathlib.Core.List.{List}
@@ -12,13 +12,15 @@ use Rattle.aabb.specs.Vector.{vec, all, plus, minus, scaled, least, grea
 abbrev pub box : Vec3 → Vec3 → Aabb
 box a b = record { min = a; max = b }
 
--- the empty box: +inf three times, -inf three times
+-- Rule B1: no point is in it
 unfoldable pub emptyBox : Aabb
 emptyBox = box (vec infinity infinity infinity) (vec (neg infinity) (neg infinity) (neg infinity))
 
+-- Rule B2: a point more
 unfoldable pub grown : Aabb → Vec3 → Aabb
 grown b p = box (least (b .min) p) (greatest (b .max) p)
 
+-- Rule B3: a box more
 unfoldable pub union : Aabb → Aabb → Aabb
 union b o = box (least (b .min) (o .min)) (greatest (b .max) (o .max))
 
@@ -34,16 +36,18 @@ widened b p = box (lowest (b .min) p) (highest (b .max) p)
 unfoldable pub joined : Aabb → Aabb → Aabb
 joined b o = box (lowest (b .min) (o .min)) (highest (b .max) (o .max))
 
+-- Rule B4: three points, one after the other
 unfoldable pub ofThree : Vec3 → Vec3 → Vec3 → Aabb
 ofThree p q r = grown (grown (grown emptyBox p) q) r
 
+-- Rule B5: halfway from min to max, and how far it is
 unfoldable pub center : Aabb → Vec3
 center b = scaled (plus (b .min) (b .max)) half
 
 unfoldable pub extent : Aabb → Vec3
 extent b = minus (b .max) (b .min)
 
--- Area: 0 if an extent is negative, else 2·((dx·dy + dy·dz) + dz·dx)
+-- Rule B6: twice the sum of the three faces; nothing where an extent is negative
 unfoldable pub areaOf : Vec3 → Float
 areaOf d =
     cond (lt (d .x) nought || (lt (d .y) nought || lt (d .z) nought)) nought
@@ -52,24 +56,26 @@ areaOf d =
 unfoldable pub area : Aabb → Float
 area b = areaOf (extent b)
 
--- Usable box: six finite numbers of magnitude at most 2^40, each min at most its max; or exactly the empty box
+-- Rule N4: no number beyond 2^40, no min above its max
 unfoldable pub bounded : Aabb → Bool
 bounded b = allWithin two-to-40 (b .min) && (allWithin two-to-40 (b .max) && allAtMost (b .min) (b .max))
 
+-- Rule N4: the empty box, numerically
 unfoldable pub isEmpty : Aabb → Bool
 isEmpty b = allEqual infinity (b .min) && allEqual (neg infinity) (b .max)
 
+-- Rule N4: the one or the other
 unfoldable pub usable : Aabb → Bool
 usable b = bounded b || isEmpty b
 
--- the first box numerically contains the second
+-- Rule B7: the first box numerically contains the second
 unfoldable pub contains : Aabb → Aabb → Bool
 contains b a = allAtMost (b .min) (a .min) && allAtMost (a .max) (b .max)
 
--- the box numerically holds the point
+-- Rule B7: the box numerically holds the point
 unfoldable pub holds : Aabb → Vec3 → Bool
 holds b p = allAtMost (b .min) p && allAtMost p (b .max)
 
--- box i of a lent slice: min x, y, z, max x, y, z
+-- Rule D3: box i of a lent slice, six numbers, min before max
 unfoldable pub boxAt : List Float → ℕ → Aabb
 boxAt numbers i = box (vectorAt numbers (i * 6)) (vectorAt numbers (i * 6 + 3))

@@ -1,4 +1,4 @@
--- Vectors and rays, as document 01 fixes them for optics_core: each operation is IEEE 754's, rounded once. Definitions only.
+-- Vectors and rays (rules V1 to V5, D6, D8, N1, N3): each operation is IEEE 754's, rounded once. Definitions only.
 use Prim.Native.Nat.{ℕ, zero, suc, _+_, _*_}
 use mathlib.Core.Bool.{Bool, _&&_}
 use mathlib.Core.List.{List}
@@ -22,6 +22,7 @@ pairwise f a b = vec (f (a .x) (b .x)) (f (a .y) (b .y)) (f (a .z) (b .z))
 abbrev pub all : (Float → Bool) → Vec3 → Bool
 all p a = p (a .x) && (p (a .y) && p (a .z))
 
+-- Rule V1: this and the next four
 unfoldable pub plus : Vec3 → Vec3 → Vec3
 plus a b = pairwise (add binary64) a b
 
@@ -51,7 +52,7 @@ unfoldable pub highest : Vec3 → Vec3 → Vec3
 highest a b = pairwise higher a b
 
 -- ---- products
--- dot is ((x·x' + y·y') + z·z')
+-- Rule V2: the products, added from x to z
 unfoldable pub dot : Vec3 → Vec3 → Float
 dot a b = add binary64 (add binary64 (mul binary64 (a .x) (b .x)) (mul binary64 (a .y) (b .y))) (mul binary64 (a .z) (b .z))
 
@@ -59,18 +60,19 @@ dot a b = add binary64 (add binary64 (mul binary64 (a .x) (b .x)) (mul binary64 
 unfoldable pub minor : Float → Float → Float → Float → Float
 minor a b c d = sub binary64 (mul binary64 a b) (mul binary64 c d)
 
--- cross is (y·z'-z·y', z·x'-x·z', x·y'-y·x')
+-- Rule V3: for each axis the minor of the other two
 unfoldable pub cross : Vec3 → Vec3 → Vec3
 cross a b = vec (minor (a .y) (b .z) (a .z) (b .y)) (minor (a .z) (b .x) (a .x) (b .z)) (minor (a .x) (b .y) (a .y) (b .x))
 
 -- ---- choice by axis: x, y, z
+-- Rule V5: 0, 1 and 2
 unfoldable pub along : ℕ → Vec3 → Float
 along zero a = a .x
 along (suc zero) a = a .y
 along (suc (suc k)) a = a .z
 
 -- ---- tests
--- finite, of magnitude at most the limit (where the limit is finite)
+-- Rule N1: finite, of magnitude at most the limit (where the limit is finite)
 unfoldable pub within : Float → Float → Bool
 within limit x = le (magnitude x) limit
 
@@ -84,6 +86,7 @@ unfoldable pub allEqual : Float → Vec3 → Bool
 allEqual k a = all (λ x. eq x k) a
 
 -- ---- numbers of a lent slice; beyond its end there is no number
+-- Rule D8: a NaN there
 abbrev pub numberAt : List Float → ℕ → Float
 numberAt numbers k = getD numbers k nan
 
@@ -94,14 +97,14 @@ vectorAt numbers k = vec (numberAt numbers k) (numberAt numbers (k + 1)) (number
 abbrev pub rayFrom : Vec3 → Vec3 → Ray
 rayFrom origin direction = record { origin = origin; direction = direction }
 
--- ray k of a lent slice, six numbers each: origin, direction
+-- Rule D6: ray k of a lent slice, six numbers each
 unfoldable pub rayAt : List Float → ℕ → Ray
 rayAt numbers k = rayFrom (vectorAt numbers (k * 6)) (vectorAt numbers (k * 6 + 3))
 
--- a point at t is origin + direction·t, by component
+-- Rule V4: where the ray is at t
 unfoldable pub pointAt : Ray → Float → Vec3
 pointAt r t = plus (r .origin) (scaled (r .direction) t)
 
--- Admitted ray: origin numbers finite, at most 2^40; direction numbers finite, at most 2. A zero direction is admitted.
+-- Rule N3: the origin within 2^40, the direction within 2
 unfoldable pub admittedRay : Ray → Bool
 admittedRay r = allWithin two-to-40 (r .origin) && allWithin two (r .direction)

@@ -1,4 +1,4 @@
-// Axis-aligned boxes. Lesser and greater are document 01's: a NaN yields the other number, and of equal numbers the running one is kept.
+// Axis-aligned boxes (rules B1 to B7). Lesser and greater are rule F4's: a NaN gives way, and the running number stays beside an equal one.
 use crate::vector;
 use crate::vector::Vec3;
 ghost use mathlib.Core.Path.{_≡_};
@@ -19,7 +19,7 @@ impl Aabb {
 
     pub const MAX_LEAF_PRIMITIVES: usize = 4;
 
-    // The empty box, from which a box grows: +inf three times, -inf three times.
+    // The empty box (rule B1), from which a box grows: each min is +inf, each max -inf.
     pub fn empty() -> Self
         ensures { λ r. ⌜ r ≡ emptyBox ⌝ }
     {
@@ -92,7 +92,7 @@ impl Aabb {
         self.max.minus(self.min)
     }
 
-    // 0 if an extent is negative, else 2·((dx·dy + dy·dz) + dz·dx).
+    // Twice the sum of the three faces, or 0 where an extent is negative (rule B6).
     pub fn surface_area(self) -> f64
         ensures { λ r. ⌜ r ≡ area self ⌝ }
     {
@@ -109,7 +109,7 @@ impl Aabb {
         2.0 * ((d.x * d.y + d.y * d.z) + d.z * d.x)
     }
 
-    // Whether the six numbers are finite, of magnitude at most 2^40, each min at most its max. A NaN fails the first test; after it the lowest
+    // Whether no min is above its max and no number is beyond 2^40 in size (rule N4). A NaN fails the first test; after it the lowest
     // min and the highest max tell for all six.
     pub fn bounded(self) -> bool
         ensures { λ r. ⌜ r ≡ bounded self ⌝ }

@@ -1,4 +1,4 @@
-// The slab test of a ray against a box (`ray_aabb_slab_test` and `Aabb::intersect_ray` of the Rust). What of the ray is the same for every box
+// The slab test (rules B8 to B12; `ray_aabb_slab_test` and `Aabb::intersect_ray` of the Rust). What of the ray is the same for every box
 // is worked out once, in `Aim`: so a walk, which tests many boxes, runs the same test, `Aim::through`.
 use crate::bounds::Aabb;
 use crate::vector::Ray;
@@ -106,7 +106,7 @@ impl Aim {
     }
 }
 
-// The sooner and the later of the times at which the ray reaches the slab's sides: exchanged if t0 > t1.
+// The sooner and the later of the times at which the ray reaches the slab's sides (rule B10).
 fn first(t0: f64, t1: f64) -> f64
     ensures { λ r. ⌜ r ≡ first t0 t1 ⌝ }
 {
@@ -119,7 +119,7 @@ fn second(t0: f64, t1: f64) -> f64
     if t0 > t1 { t0 } else { t1 }
 }
 
-// Last, missed if exit < 0.
+// What lies behind the ray is missed (rule B11).
 fn ahead(enter: f64, exit: f64) -> Span
     ensures { λ r. ⌜ r ≡ ahead enter exit ⌝ }
 {

@@ -1,4 +1,4 @@
-// Vec3 and Ray, which stand for optics_core's. The operators and `[axis]` of the Rust are named calls; each takes values and hands values back.
+// Vec3 and Ray, which stand for optics_core's (rules V1 to V5). The operators and `[axis]` of the Rust are named calls, by value.
 ghost use mathlib.Core.Path.{_≡_};
 ghost use Prim.Native.Nat.{_*_, min};
 ghost use lib.ListN.{length};
@@ -260,7 +260,7 @@ impl Ray {
         self.origin.plus(self.direction.scaled(t))
     }
 
-    // Whether the ray is admitted: origin numbers finite, at most 2^40; direction numbers finite, at most 2. A zero direction is admitted.
+    // Whether the ray is admitted (rule N3): no number of its origin beyond 2^40 in size, none of its direction beyond 2. Zeros will do.
     pub fn admitted(self) -> bool
         ensures { λ r. ⌜ r ≡ admittedRay self ⌝ }
     {

@@ -1,4 +1,4 @@
--- What a build answers and leaves in the lent lists, on every input. Definitions only.
+-- What a build answers and leaves in the lent lists, on every input (rules C1, C8, C9). Definitions only.
 use Prim.Native.Nat.{ℕ, zero, suc, _+_, _*_, _/_}
 use mathlib.Core.Option.{Option, none, some}
 use mathlib.Core.List.{List, [], _∷_, _++_}
@@ -26,18 +26,17 @@ pub record Outcome : Type 0 where
 abbrev pub outcome : Built → List ℕ → List Float → List ℕ → Outcome
 outcome answer index boxes links = record { answer = answer; index = index; boxes = boxes; links = links }
 
--- R = 2n-1, or 1 for n = 0
+-- Refusal 4: the most nodes that n triangles have
 unfoldable pub room : ℕ → ℕ
 room zero = 1
 room (suc n) = 2 * n + 1
 
--- 6 sets every number of the lent index and node buffers to zero. Success answers the node count 2L-1 and the leaf count L, and writes the
--- first n indices and the first 2L-1 nodes; the rest stays
+-- Rules C8 and C9: how many nodes and leaves, with the list and the nodes written and spare room as it was; or 6, and zeros in everything lent
 unfoldable pub finished : ℕ → Option Grown → List ℕ → List Float → List ℕ → Outcome
 finished n none index boxes links = outcome (Refused 6 0) (replicate (length index) 0) (replicate (length boxes) nought) (replicate (length links) 0)
 finished n (some g) index boxes links = outcome (Grew (1 + below (g .tree)) (leaves (g .tree))) (g .ids ++ drop n index) (boxesOf (g .tree) 0 1 boxes) (linksOf (g .tree) 0 1 links)
 
--- Build order: 1, 2, 3, 4 (node room below R in boxes or links), 5, 6. Refusals 1 to 5 leave all buffers unchanged
+-- The ladder of a build: 1 to 5, the first that applies, and nothing is written; then rule C1 and the division
 unfoldable pub built : List Float → List ℕ → List Float → List ℕ → Outcome
 built mesh index boxes links =
     unless

@@ -1,4 +1,4 @@
--- Split choice. Definitions only.
+-- The choice of a split (rules S1 to S9). Definitions only.
 use Prim.Native.Nat.{ℕ, zero, suc, _+_}
 use mathlib.Core.Bool.{Bool, cond}
 use mathlib.Core.List.{List, [], _∷_}
@@ -15,15 +15,15 @@ use Rattle.builder.specs.declared.split.SplitDecision.{SplitDecision}
 use Rattle.builder.specs.declared.split.SplitDecision.the-variants.{Split, MakeLeaf}
 use Rattle.builder.specs.Bins.{whole, noBin, joinBins, filled, suffixOf}
 
--- (area·n)·1.5
+-- Rule S7: (area·n)·1.5 of one side
 unfoldable pub weight : Bin → Float
 weight b = mul binary64 (mul binary64 (area (b .bounds)) (whole (b .count))) one-and-half
 
--- cost = 1 + ((areaL·nL)·1.5 + (areaR·nR)·1.5)/parent
+-- Rule S7: what a boundary costs, by its two sides
 unfoldable pub costOf : Bin → Bin → Float → Float
 costOf l r parent = add binary64 one (div binary64 (add binary64 (weight l) (weight r)) parent)
 
--- For a boundary with both sides occupied, only a strictly smaller cost replaces the best. Position: min + (i+1)·(1/scale), where i+1 bins are to the left
+-- Rules S7 and S8: the boundary with so many bins to its left, against the best so far; an empty side or an equal cost changes nothing
 unfoldable pub betterOf : Best → Bin → Bin → ℕ → ℕ → Float → Float → Float → Best
 betterOf best l r bins axis min width parent =
     cond (eqb (l .count) 0) best
@@ -32,14 +32,14 @@ betterOf best l r bins axis min width parent =
     (record { cost = costOf l r parent; axis = axis; position = add binary64 min (mul binary64 (whole bins) width) })
     best))
 
--- For each boundary i in 0..14: from i on, with what is to the left joined
+-- Rule S6: the boundaries from i on, with what is to the left joined
 unfoldable pub sweepFrom : ℕ → Float → Float → Float → Best → Bin → List Bin → ℕ → Best
 sweepFrom axis min width parent best l [] i = best
 sweepFrom axis min width parent best l (b ∷ []) i = best
 sweepFrom axis min width parent best l (b ∷ c ∷ bs) i =
     sweepFrom axis min width parent (betterOf best (joinBins l b) (suffixOf (c ∷ bs)) (i + 1) axis min width parent) (joinBins l b) (c ∷ bs) (i + 1)
 
--- an axis is skipped if its centroid span is < 1e-6; scale is 16/span
+-- Rule S3: one axis, unless the centroids hardly differ on it
 unfoldable pub tryAxis : List Float → List ℕ → Aabb → ℕ → Float → Best → Best
 tryAxis mesh range centroids axis parent best =
     let min = along axis (centroids .min) in
@@ -47,19 +47,20 @@ tryAxis mesh range centroids axis parent best =
     let scale = div binary64 sixteen span in
     cond (lt span millionth) best (sweepFrom axis min (div binary64 one scale) parent best noBin (filled mesh axis min scale (replicate 16 noBin) range) 0)
 
--- the best starts at count·1.5
+-- Rule S2: the cost that a split must beat
 unfoldable pub leafCost : List ℕ → Float
 leafCost range = mul binary64 (whole (length range)) one-and-half
 
--- Axes x, y, z
+-- Rule S2: x, then y, then z
 unfoldable pub bestOfAxes : List Float → List ℕ → Aabb → Float → Float → Best
 bestOfAxes mesh range centroids parent leaf =
     tryAxis mesh range centroids 2 parent (tryAxis mesh range centroids 1 parent (tryAxis mesh range centroids 0 parent (record { cost = leaf; axis = 0; position = nought })))
 
+-- Rule S9: a leaf, where nothing beats it
 unfoldable pub chosen : Float → Best → SplitDecision
 chosen leaf best = cond (lt (best .cost) leaf) (Split (best .axis) (best .position)) MakeLeaf
 
--- No split at 4 or fewer, or when the parent area is <= 1e-12
+-- Rule S1: a leaf too, of so few triangles or of so small an area
 unfoldable pub bestSplit : List Float → List ℕ → Aabb → Aabb → SplitDecision
 bestSplit mesh range bounds centroids =
     let leaf = leafCost range in

@@ -1,4 +1,4 @@
--- The tree of the rules, however deep. Definitions only.
+-- The tree of the rules, however deep (rule C8). Definitions only.
 use mathlib.Core.Path.{_≡_}
 use mathlib.Core.Option.{some}
 use mathlib.Core.List.{List}

@@ -1,4 +1,4 @@
--- Where the partition leaves one side empty: the range in ascending order of centroid. Definitions only.
+-- Where the partition leaves one side empty (rule C5): the range by ascending centroid. Definitions only.
 use Prim.Native.Nat.{ℕ, _/_}
 use mathlib.Core.Bool.{Bool, true, false, cond, _||_}
 use mathlib.Core.List.{List, [], _∷_}
@@ -13,7 +13,7 @@ use Rattle.builder.specs.Partition.{Parted, parts, parted}
 unfoldable pub underAt : (ℕ → Float) → ℕ → ℕ → Bool
 underAt at a b = totalLess (at a) (at b)
 
--- ascending order of centroid by `total_cmp`, equal ones by lower triangle number
+-- Rule C5: by what `at` has, and of equals the lower number first
 unfoldable pub ahead : (ℕ → Float) → ℕ → ℕ → Bool
 ahead at a b = lex (underAt at) ltb a b
 
@@ -28,7 +28,7 @@ sorted less (x ∷ xs) = insert less x (sorted less xs)
 unfoldable pub ordered : List Float → ℕ → List ℕ → List ℕ
 ordered mesh axis range = sorted (ahead (centroidAt mesh axis)) range
 
--- If one side is empty, the range is put in order, and the left side takes count/2
+-- Rule C5: where all came to one side, the range in order, cut in the middle
 unfoldable pub settled : List Float → ℕ → Parted → Parted
 settled mesh axis s = cond (eqb (s .at) 0 || eqb (s .at) (length (s .ids))) (parts (ordered mesh axis (s .ids)) (length (s .ids) / 2)) s
 

@@ -1,4 +1,4 @@
--- The partition of a range, as the file does it. Definitions only.
+-- The partition of a range (rule C4), as builder.rs does it. Definitions only.
 use Prim.Native.Nat.{ℕ, zero, suc, _+_}
 use mathlib.Core.Bool.{Bool, true, false}
 use mathlib.Core.List.{List}
@@ -18,12 +18,12 @@ pub record Parted : Type 0 where
 abbrev pub parts : List ℕ → ℕ → Parted
 parts xs k = record { ids = xs; at = k }
 
--- go up while an entry is kept, else exchange it with the right end and lower it; k entries from `left` on are to be placed
+-- Rule C4: an entry that is kept stays, another changes places with the last that is not placed yet; k entries from `left` on are to be placed
 unfoldable pub moves : (ℕ → Bool) → ℕ → ℕ → List ℕ → Parted
 moves keep zero left xs = parts xs left
 moves keep (suc k) left xs = elim (keep (getD xs left 0)) [ true ↦ moves keep k (suc left) xs | false ↦ moves keep k left (swapped xs left (left + k)) ]
 
--- centroid < position
+-- Rule C4: it is kept on the left
 unfoldable pub lower : List Float → ℕ → Float → ℕ → Bool
 lower mesh axis position i = lt (centroidAt mesh axis i) position
 

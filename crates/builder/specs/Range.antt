@@ -1,4 +1,4 @@
--- A range of triangle numbers: its box, and the box of its centroids. Definitions only.
+-- A range of triangle numbers (rule C2): its box, and the box of its centroids. Definitions only.
 use Prim.Native.Nat.{ℕ, _/_, _<_}
 use mathlib.Core.List.{List, [], _∷_}
 use lib.ListN.{length}
@@ -8,7 +8,7 @@ use Rattle.aabb.specs.declared.bounds.Aabb.{Aabb}
 use Rattle.aabb.specs.Bounds.{emptyBox, grown, union}
 use Rattle.triangle.specs.Mesh.{triangleAt, centroidOf, boundsAt}
 
--- A node's box is the union, from the empty box, of its range's triangle boxes in list order
+-- Rule C2: joined with each triangle's box, in list order
 unfoldable pub boxFrom : List Float → Aabb → List ℕ → Aabb
 boxFrom mesh b [] = b
 boxFrom mesh b (i ∷ is) = boxFrom mesh (union b (boundsAt mesh i)) is
@@ -16,7 +16,7 @@ boxFrom mesh b (i ∷ is) = boxFrom mesh (union b (boundsAt mesh i)) is
 unfoldable pub nodeBox : List Float → List ℕ → Aabb
 nodeBox mesh range = boxFrom mesh emptyBox range
 
--- the empty box, grown by each centroid in list order: its min and max on an axis are the least and the greatest centroid there
+-- Rule C2: grown by each centroid, in list order: from the empty box, min and max on an axis are the least and the greatest centroid there
 unfoldable pub centroidsFrom : List Float → Aabb → List ℕ → Aabb
 centroidsFrom mesh b [] = b
 centroidsFrom mesh b (i ∷ is) = centroidsFrom mesh (grown b (centroidOf (triangleAt mesh i))) is

@@ -1,4 +1,4 @@
--- Leaf ranges in order. Definitions only.
+-- Leaf ranges in order (rule G2). Definitions only.
 use mathlib.Core.Path.{_≡_}
 use Prim.Native.Nat.{ℕ, _+_}
 use Rattle.tree.specs.Tree.{Tree, leaf, internal}

@@ -1,4 +1,4 @@
--- The tree of a range. Definitions only.
+-- The tree of a range (rules C3 and C8). Definitions only.
 use Prim.Native.Nat.{ℕ, zero, suc, _+_}
 use mathlib.Core.Option.{Option, none, some}
 use mathlib.Core.List.{List, [], _∷_, _++_}
@@ -26,13 +26,15 @@ joined b none r = none
 joined b (some l) none = none
 joined b (some l) (some r) = some (grownAs (internal b (l .tree) (r .tree)) (l .ids ++ r .ids))
 
+-- Rule C3: a leaf or a split, by the boxes of rule C2
 unfoldable pub decision : List Float → List ℕ → SplitDecision
 decision mesh range = bestSplit mesh range (nodeBox mesh range) (centroidBox mesh range)
 
+-- Rule C3: its range as it stands
 unfoldable pub leafOf : List Float → ℕ → List ℕ → Option Grown
 leafOf mesh first range = some (grownAs (leaf (nodeBox mesh range) first (length range)) range)
 
--- the tree of a range whose first stands at `first`, with at most d levels below its root; `none`: a node deeper
+-- Rule C8: the tree of a range whose first stands at `first`, with at most d levels below its root; `none`: a node deeper
 unfoldable pub grow : List Float → ℕ → ℕ → List ℕ → Option Grown
 grow mesh zero first range = elim (decision mesh range) [ MakeLeaf ↦ leafOf mesh first range | Split a p ↦ none ]
 grow mesh (suc d) first range = elim (decision mesh range) [

@@ -61,7 +61,7 @@ fn upper(row: Row, half: usize, width: f64, x: f64) -> Row
     row
 }
 
-// The greatest whole k in 0..15 with k <= x, by four halvings: what the cast to `usize` of the Rust and its `min` come to, worked out.
+// The bin of x (rule S4) by four halvings: what the cast to `usize` of the Rust and its `min` come to, worked out.
 pub fn bin_of(x: f64) -> usize
     ensures { λ r. ⌜ (r ≡ binOf 15 x) × (r ≤ 15) ⌝ }
 {

@@ -1,4 +1,4 @@
-// The division of a range into the tree at a node: `subdivide_bvh_node` of the Rust, with the depth limit of document 01.
+// The division of a range into the tree at a node (rules C3 to C8): `subdivide_bvh_node` of the Rust, with a limit to the depth.
 use crate::nodes;
 use crate::partition;
 use crate::range;
@@ -18,7 +18,7 @@ pub enum Made {
 }
 
 // The range, whose first stands at `first` of the index list, is divided as the tree at `node`. Nodes from `next` on are free, and `below` levels may
-// still come below it. Children take the next two node numbers, and the left one is divided wholly before the right.
+// still come below it. The children's numbers are the next two; the left side is done, with all below it, before the right is begun (rule C6).
 pub fn subdivide(
     triangles: &[f64],
     index: &mut [u32],

@@ -19,18 +19,18 @@ ghost use Rattle.builder.specs.Tree.{grow};
 ghost use Rattle.lent.specs.Permutation.{upTo};
 ghost use Rattle.builder.specs.Build.{outcome, finished, built};
 
-// What a build answers: the tree's node count and leaf count, or document 01's refusal number and its `at`.
+// What a build answers: the tree's node count and leaf count, or a refusal's number and its `at`.
 pub enum Built {
     Tree { nodes: usize, leaves: usize },
     Refused { number: u32, at: usize },
 }
 
 // The tree of the triangles, twelve numbers each: v0, v1, v2, normal. On success `index` has the triangle numbers, each leaf's in one range,
-// `boxes` six numbers a node (min x, y, z, max x, y, z) and `links` three (`left_or_first`, `count`, kind: 1 leaf, 0 internal); room beyond
-// the n indices and the 2L-1 nodes stays. Refused, in this order: 1 the triangle slice is not a multiple of 12 long; 2 more than 65,536
-// triangles (at: how many); 3 index room shorter than n; 4 node room below R in boxes or links (at: R; 2n-1, or 1 for none);
-// 5 a triangle isn't admitted (at: the lowest such number); 6 the tree has a node deeper than 63. Refusals 1 to 5 write nothing; 6 sets
-// every number of the lent index and node buffers to zero.
+// `boxes` six numbers a node (min, then max) and `links` three (rule D3: `left_or_first`, `count`, and kind, 1 of a leaf); room beyond the n
+// entries and the 2L-1 nodes stays (rule C9). Refused, in this order: 1 the triangles are not in twelves; 2 more than 65,536 of them (at: how
+// many); 3 less index room than one a triangle; 4 room for fewer nodes than the triangles can have, in boxes or in links (at: how many,
+// 2n-1 or 1); 5 a triangle isn't admitted (at: the lowest such number); 6 the tree would go deeper than 63. Refusals 1 to 5 write nothing;
+// after 6 every number that was lent to be written is zero.
 pub fn build(triangles: &[f64], index: &mut [u32], boxes: &mut [f64], links: &mut [u32]) -> Built
     ensures { λ r. ⌜ outcome r (now (index .exit)) (now (boxes .exit)) (now (links .exit)) ≡ built (now (triangles .entry)) (now (index .entry)) (now (boxes .entry)) (now (links .entry)) ⌝ }
 {

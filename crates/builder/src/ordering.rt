@@ -1,4 +1,4 @@
-// The fallback order: ascending by centroid in the total order of floats, equal ones by lower triangle number. It stands for
+// The fallback order (rule C5): ascending by centroid in the total order of floats, the lower number first where two are equal. It stands for
 // `select_nth_unstable_by` of the Rust, which leaves the order open. A heap sort: in place, and n log n on any range.
 use crate::range;
 ghost use mathlib.Core.Path.{_≡_};

@@ -1,4 +1,4 @@
-// The partition of a range by a position on an axis, as the Rust's loop does it.
+// The partition of a range by a position on an axis (rule C4), as the Rust's loop does it.
 use crate::ordering;
 use crate::range;
 ghost use mathlib.Core.Path.{_≡_};
@@ -8,7 +8,7 @@ ghost use Rattle.lent.specs.Limits.{most-triangles};
 ghost use Rattle.builder.specs.Partition.{parts, parted};
 ghost use Rattle.builder.specs.Fallback.{separated};
 
-// Go up while centroid < position, else exchange with the right end and lower it. The answer is how many are on the left.
+// Whatever lies below the position stays on the left, all else is sent to the right end. The answer is how many are on the left.
 pub fn partition(triangles: &[f64], index: &mut [u32], axis: usize, position: f64) -> usize
     ensures { λ r. ⌜ parts (now (index .exit)) r ≡ parted (now (triangles .entry)) axis position (now (index .entry)) ⌝ }
 {

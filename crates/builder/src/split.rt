@@ -1,4 +1,4 @@
-// The choice of a split by sixteen bins an axis: `find_best_split` of the Rust, an inner part here.
+// The choice of a split by sixteen bins an axis (rules S1 to S9): `find_best_split` of the Rust, an inner part here.
 use crate::bins;
 use crate::bins::Bin;
 use crate::range::Hull;

@@ -1,4 +1,4 @@
--- Each public call's promise fixes its answer and the final content of everything lent: any two that it allows are equal. Assumes nothing.
+-- Each public call's promise fixes what it answers and what all that is lent holds at the end: any two that it allows are equal. Assumes nothing.
 use Prim.Native.Nat.{ℕ}
 use native.Mathlib.Omega.{arith}
 use mathlib.Core.Path.{_≡_, refl, sym, _∙_, ap}

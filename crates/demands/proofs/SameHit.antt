@@ -189,7 +189,7 @@ reached-too s s′ t t′ r L k h =
     let v = some-one (SameLeaf x) (leavesOf (s′ .tree) t′) (L x (w .1)) in
     to-leaf s′ r k t′ (one-some (Holding s′ r k) (leavesOf (s′ .tree) t′) (v .0) (v .1) ((rw (← v .2 .0) (w .2 .0), v .2 .1 .0 k (w .2 .1))))
 
--- ---- the theorems, of two accepted trees over the same triangles
+-- ---- the theorems, of two walkable trees over one mesh
 module _ (s s′ : Lent) (t t′ : Tree) (r : Ray) (mesh : s .mesh ≡ s′ .mesh) (A : Walkable s t) (B : Walkable s′ t′) (R : T (admittedRay r)) where
   -- the ray reaches the same triangles in both, in whatever order: the same hit
   pub same-hit : SameNumbers (numbers (s .tree) (reached r t)) (numbers (s′ .tree) (reached r t′)) → walk s r .hit ≡ walk s′ r .hit

@@ -1,4 +1,4 @@
--- Demand 3 reads for each place of a sky of rays over a built tree: a place tells what the single walk answers, and that meets it. Assumes nothing.
+-- Demand 3 for every place of a sky of rays over a built tree: a place tells what the single walk answers, and that meets it. Assumes nothing.
 use mathlib.Core.Path.{_≡_, refl, ap, _∙_}
 use mathlib.Core.Logic.{inl, inr}
 use mathlib.Core.List.{List, _++_}
@@ -81,7 +81,7 @@ module _ (mesh : List Float) (index : List ℕ) (boxes : List Float) (links : Li
   abbrev full : Filling
   full = filling Places (records (timesFor s rays) (rayCount rays) ++ drop (rayCount rays) times) (records (toldFor s rays) (rayCount rays) ++ drop (rayCount rays * 4) told)
 
-  -- Demand 3 reads for each place: an unchanged built tree over its own triangles, rays in sixes, answer room that suffices, and each ray that is admitted, whatever the others are.
+  -- Rule G4: an unchanged built tree over its own triangles, rays in sixes, answer room that suffices, and each ray that is admitted, whatever the others are.
   pub built-sky : built mesh index boxes links .answer ≡ Grew nodes leaf-count → length rays % 6 ≡ 0 → rayCount rays ≤ length times → rayCount rays * 4 ≤ length told
       → SignedSky s nodes leaf-count rays (sky s rays times told)
   built-sky e sixes timed roomy =

@@ -1,4 +1,4 @@
--- Demand 3: what a walk of lists that hold a tree must answer, and what is signed of a built tree. "Passes" is the slab test's own answer on
+-- Demand 3 (rule G3): what a walk of lists that hold a tree must answer, and what is signed of a built tree. "Passes" is the slab test's own answer on
 -- the node's own box, whatever its parents say. Definitions only.
 use mathlib.Core.Path.{_≡_}
 use Prim.Native.Nat.{ℕ, _+_, _*_, _≤_}
@@ -28,7 +28,7 @@ pub record Demand3 (s : Lent) (t : Tree) (r : Ray) : Type 0 where
   -- so at most 2L-1 and n
   pub most-boxes : walk s r .boxes + 1 ≤ 2 * leaves t
   pub most-triangles : walk s r .triangles ≤ triangleCount (s .mesh .triangles)
-  -- the hit is the nearest found in those leaves, the lowest triangle number winning a tie, none if there is none
+  -- the hit is the nearest found in those leaves (rule E2), and there is none only where nothing is found there
   pub hit : (h : Hit) → walk s r .hit ≡ At h → NearestAt s r (reached r t) h
   pub no-hit : walk s r .hit ≡ Nothing → Every (NothingAt s r) (reached r t)
 
@@ -43,7 +43,7 @@ pub record Signed (s : Lent) (nodes leaf-count : ℕ) : Type 0 where
   pub leaves-are : leaves tree ≡ leaf-count
   pub odd : nodes + 1 ≡ 2 * leaf-count
   pub answer : (r : Ray) → T (admittedRay r) → Demand3 s tree r
-  -- Any tree over the same triangles with the same leaves that a walk can take has the same hit, in whatever order it walks them, and so has any order
+  -- Rule G5: any tree over the same triangles with the same leaves that a walk can take has the same hit, in whatever order it walks them, and so has any order
   -- of the index list within the leaves.
   pub settled : (r : Ray) → T (admittedRay r) → (s′ : Lent) (t′ : Tree) → s .mesh ≡ s′ .mesh → Walkable s′ t′ → SameLeaves (leavesOf (s .tree) tree) (leavesOf (s′ .tree) t′) → walk s r .hit ≡ walk s′ r .hit
   pub any-order : (r : Ray) → T (admittedRay r) → (order : List ℕ) → Reordered s order tree → walk s r .hit ≡ walk (withIndex s order) r .hit

@@ -1,4 +1,4 @@
--- A built tree is handed to the walk as its 2L-1 nodes and n index entries, without spare room. Definitions only.
+-- What a build hands over to a walk (rule C10): the lists, cut to what was written. Definitions only.
 use Prim.Native.Nat.{_*_}
 use mathlib.Core.List.{List, []}
 use lib.ListN.{take}

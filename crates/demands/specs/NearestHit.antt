@@ -1,4 +1,4 @@
--- What it is that a hit is the nearest of those at some places, the lowest triangle number winning a tie. Definitions only.
+-- What it is that a hit is the nearest of those at some places (rule E2). Definitions only.
 use mathlib.Core.Path.{_≡_}
 use mathlib.Core.List.{List}
 use Prim.Native.Nat.{ℕ, _≤_}
@@ -22,11 +22,11 @@ Admitted s p = T (admittedTriangle (triangleAt (s .mesh .triangles) (getD (s .tr
 abbrev pub finds : Lent → Ray → ℕ → Found
 finds s r p = strike r (triangleAt (s .mesh .triangles) (getD (s .tree .index) p 0)) (getD (s .tree .index) p 0)
 
--- the t of h is no greater than that of g, and where the two are numerically equal, its triangle's number is no higher
+-- Rule E2: the t of h is no greater than that of g, and where the two are numerically equal, its triangle's number is no higher
 abbrev pub Ahead : Hit → Hit → Type 0
 Ahead h g = T (le (h .t) (g .t)) × (T (le (g .t) (h .t)) → h .triangle ≤ g .triangle)
 
--- h is found at one of the places, and is ahead of whatever is found at any of them
+-- Rule E2: h is found at one of the places, and is ahead of whatever is found at any of them
 pub record NearestAt (s : Lent) (r : Ray) (ps : List ℕ) (h : Hit) : Type 0 where
   pub found : Some (λ (p : ℕ). finds s r p ≡ At h) ps
   pub ahead : Every (λ p. (g : Hit) → finds s r p ≡ At g → Ahead h g) ps

@@ -74,7 +74,7 @@ All (p ∷ ps) = Claim p × All ps
 abbrev ray : Vec3 → Vec3 → Ray
 ray o d = record { origin = o; direction = d }
 
--- Down is (0,0,-1)
+-- down along z
 abbrev down : Float → Float → Float → Ray
 down x y z = ray (vec x y z) (vec (int 0) (int 0) (minus 1))
 
@@ -84,7 +84,7 @@ missed b c = record { refusal = none; hit = Nothing; boxes = b; triangles = c }
 abbrev struck : Float → Vec3 → Vec3 → Bool → ℕ → ℕ → ℕ → Told
 struck t point normal front k b c = record { refusal = none; hit = At (record { t = t; point = point; normal = normal; front = front; triangle = k }); boxes = b; triangles = c }
 
--- T is (0,0,0), (1,0,0), (0,1,0), normal (0,0,1)
+-- the triangle T: right-angled, its legs of 1 along x and y
 abbrev up : Vec3
 up = vec (int 0) (int 0) (int 1)
 
@@ -103,7 +103,7 @@ infinite = inf false ∷ inf false ∷ inf false ∷ inf true ∷ inf true ∷ i
 abbrev unit : Aabb
 unit = box (vec (int 0) (int 0) (int 0)) (vec (int 1) (int 1) (int 1))
 
--- (s,0,0), (s+3,0,0), (s,3,0), normal (0,0,1), s = 0, 16, 32, 48, 64
+-- five in a row along x, with legs of 3, one every 16
 abbrev five : List Float
 five = triangle (int 0) (int 3) (int 3) ++ triangle (times 1 4) (int 19) (int 3) ++ triangle (times 1 5) (int 35) (int 3) ++ triangle (times 3 4) (int 51) (int 3) ++ triangle (times 1 6) (int 67) (int 3)
 
@@ -113,38 +113,38 @@ along-x a b = a ∷ int 0 ∷ int 0 ∷ b ∷ int 3 ∷ int 0 ∷ []
 -- ---- the table
 unfoldable pub probes : List Probe
 probes =
-    -- P1 n = 0: one node; slab on its box with direction (1,1,1): (0, +inf); with Down: none
+    -- P1: the tree of no triangles is one node, whose box a slanting ray passes and one that is flat on an axis does not
     grown [] (outcome (Tree 1 1) [] infinite (0 ∷ 0 ∷ 1 ∷ [])) ∷
     slabbed (ray (vec quarter quarter (int 1)) (vec (int 1) (int 1) (int 1))) emptyBox (Passed (int 0) (inf false)) ∷
     slabbed (down quarter quarter (int 1)) emptyBox Missed ∷
     walked [] (ray (vec quarter quarter (int 1)) (vec (int 1) (int 1) (int 1))) (missed 1 0) ∷
     walked [] (down quarter quarter (int 1)) (missed 1 0) ∷
-    -- P2 T, origin (0.25,0.25,1), Down: t 1, point (0.25,0.25,0), front; counts 1, 1
+    -- P2: T from above is met at 1, from the front, after one test of each kind
     grown T (outcome (Tree 1 1) (0 ∷ []) flat (0 ∷ 1 ∷ 1 ∷ [])) ∷
     walked T (down quarter quarter (int 1)) (struck (int 1) (vec quarter quarter (int 0)) up true 0 1 1) ∷
-    -- P3 T, origin (0.25,0.25,-1), direction (0,0,1): t 1, back, normal z -1
+    -- P3: and from below, from the back, the normal turned round
     walked T (ray (vec quarter quarter (minus 1)) up) (struck (int 1) (vec quarter quarter (int 0)) (vec (minus 0) (minus 0) (minus 1)) false 0 1 1) ∷
-    -- P4 T, origin (0.75,0.75,1), Down: miss; 1, 1
+    -- P4: inside T's box, but beyond its long side: both tests are made, the second misses
     walked T (down (over 3 2) (over 3 2) (int 1)) (missed 1 1) ∷
-    -- P5 T, origin (2,0.25,1), Down: miss; 1, 0
+    -- P5: beside T's box: no triangle test
     walked T (down (times 1 1) quarter (int 1)) (missed 1 0) ∷
-    -- P6 T, origin (0.5,0.5,1), Down: hit, t 1 (u+v = 1)
+    -- P6: just on T's long side, u + v being 1, is a hit
     walked T (down (over 1 1) (over 1 1) (int 1)) (struck (int 1) (vec (over 1 1) (over 1 1) (int 0)) up true 0 1 1) ∷
-    -- P7 T, origin z 2^-20, x = y = 0.25, Down: miss; z 2^-19: hit
+    -- P7: from 2^-20 above T it is too near, from 2^-19 it is not
     walked T (down quarter quarter (over 1 20)) (missed 1 1) ∷
     walked T (down quarter quarter (over 1 19)) (struck (over 1 19) (vec quarter quarter (int 0)) up true 0 1 1) ∷
-    -- P8 box (0,0,0) to (1,1,1), origin (0.5,0.5,2): direction (0,0,-2^-40) none; (0,0,-2^-39) gives (2^39, 2^40)
+    -- P8: above the unit cube, a direction of length 2^-40 is flat on all axes, and one of 2^-39 is not
     slabbed (ray (vec (over 1 1) (over 1 1) (times 1 1)) (vec (int 0) (int 0) (fin true 1 (negsuc 39)))) unit Missed ∷
     slabbed (ray (vec (over 1 1) (over 1 1) (times 1 1)) (vec (int 0) (int 0) (fin true 1 (negsuc 38)))) unit (Passed (times 1 39) (times 1 40)) ∷
-    -- P9 five copies of T: one leaf of 5
+    -- P9: T five times over is one leaf
     grown (T ++ T ++ T ++ T ++ T) (outcome (Tree 1 1) (0 ∷ 1 ∷ 2 ∷ 3 ∷ 4 ∷ []) (flat ++ replicate 48 (int 0)) (0 ∷ 5 ∷ 1 ∷ replicate 24 0)) ∷
-    -- P10 five triangles: split on x at 21; index list 0,1,3,4,2; root left 1; leaves (0,2) and (2,3)
+    -- P10: the row of five is split on x at 21, two to the left and three to the right
     split five (Split 0 (int 21)) ∷
     grown five
     (outcome (Tree 3 2) (0 ∷ 1 ∷ 3 ∷ 4 ∷ 2 ∷ []) (along-x (int 0) (int 67) ++ along-x (int 0) (int 19) ++ along-x (times 1 5) (int 67) ++ replicate 36 (int 0))
     (1 ∷ 0 ∷ 0 ∷ 0 ∷ 2 ∷ 1 ∷ 2 ∷ 3 ∷ 1 ∷ replicate 18 0)) ∷
-    -- P11 P10, origin (17,1,1), Down: triangle 1, t 1; 3, 2
+    -- P11: down on the second of the row: three box tests, and the left leaf's two triangles
     walked five (down (int 17) (int 1) (int 1)) (struck (int 1) (vec (int 17) (int 1) (int 0)) up true 1 3 2) ∷
-    -- P12 P10, origin (25,1,1), Down: miss; 3, 0
+    -- P12: down between the leaves' boxes: three box tests, no triangle test
     walked five (down (int 25) (int 1) (int 1)) (missed 3 0) ∷
     []

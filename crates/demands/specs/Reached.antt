@@ -1,4 +1,4 @@
--- What a walk of a tree must find. Definitions only.
+-- What a walk of a tree must find (rule G3). Definitions only.
 use mathlib.Core.Bool.{cond}
 use mathlib.Core.List.{List, [], _∷_, _++_}
 use Prim.Native.Nat.{ℕ, _+_, _*_}

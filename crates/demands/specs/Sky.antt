@@ -1,4 +1,4 @@
--- Demand 3, read from one place of a sky of rays: the numbers that a caller finds there, and nothing else. Definitions only.
+-- Demand 3, read from one place of a sky of rays (rule G4): the numbers that a caller finds there, and nothing else. Definitions only.
 use mathlib.Core.Path.{_≡_}
 use mathlib.Core.Logic.{_⊎_}
 use mathlib.Core.List.{List}

@@ -1,4 +1,4 @@
--- Each number of specs/Number.antt is the decimal that document 01 writes, rounded once to the nearest `f64`, by computing both; and what it is as a fraction, which the laws compute with.
+-- Each number of specs/Number.antt is the decimal of rule F6, rounded once to the nearest `f64`, by computing both; and what it is as a fraction, which the laws compute with.
 -- Assumes nothing.
 use mathlib.Core.Path.{_≡_, refl}
 use mathlib.Core.Bool.{false}

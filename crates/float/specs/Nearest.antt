@@ -1,4 +1,4 @@
--- What a root rounded to nearest is, by comparing squares alone: proofs/RootNearest.antt shows that `root` is it, and that there is one. Definitions only.
+-- What a root rounded to nearest is (rule F8), by comparing squares alone: proofs/RootNearest.antt shows that `root` is it, and that there is one. Definitions only.
 use mathlib.Core.Path.{_≡_}
 use Prim.Native.Nat.{ℕ, zero, suc, _+_, _*_, _^_, _<_}
 use mathlib.Core.Bool.{Bool, true, false}
@@ -25,7 +25,7 @@ pub record Nearest (w : ℕ) (r : Float) : Type 0 where
   pub to-lower : (y : Float) → T (number y) → inUnits y < inUnits r → square (inUnits y + inUnits r) < 4 * w
   pub to-higher : (y : Float) → T (number y) → inUnits r < inUnits y → 4 * w < square (inUnits r + inUnits y)
 
--- r is the root of x, rounded to nearest even; -0 gives -0, +inf itself, and a NaN or a number below zero a NaN. The root of n units is that of n * 2^1074, in units.
+-- Rule F8: r is the root of x. Zeros and +inf are their own; that of a NaN, or of what is below zero, is a NaN. The root of n units is that of n * 2^1074, in units.
 abbrev pub IsRoot : Float → Float → Type 0
 IsRoot nan r = r ≡ nan
 IsRoot (inf true) r = r ≡ nan

@@ -1,4 +1,4 @@
--- The numbers that document 01 names, each by its bits, as Rattle has a literal of the source: so a clause that names one and code that
+-- Rule F6: the constants, each by its bits, as Rattle has a literal of the source: so a clause that names one and code that
 -- has the literal are the same term. proofs/Numbers.antt shows that each is the decimal, rounded once. Definitions only.
 use mathlib.Core.Bool.{Bool, true, false}
 use lib.Ieee.{Float, nan, inf, fin, binary64, ofBits}

@@ -1,14 +1,14 @@
--- The float calls `abs`, `min` and `max`, by document 01's rules. Definitions only.
+-- The float calls `abs`, `min` and `max` (rules F3 and F4). Definitions only.
 use mathlib.Core.Bool.{false, _||_, cond}
 use lib.Ieee.{Float, nan, inf, fin, lt, isNan}
 
--- |x|
+-- Rule F3: |x|
 abbrev pub magnitude : Float → Float
 magnitude nan = nan
 magnitude (inf s) = inf false
 magnitude (fin s m e) = fin false m e
 
--- Lesser and greater of two: a NaN yields the other number; of numerically equal numbers the first, the running one, is kept.
+-- Rule F4: a running NaN gives way, and a tie leaves the running number
 unfoldable pub lesser : Float → Float → Float
 lesser run x = cond (lt x run || isNan run) x run
 

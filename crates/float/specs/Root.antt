@@ -1,5 +1,5 @@
--- The square root, rounded to nearest even and defined over whole numbers by comparing squares; -0 gives -0, +inf itself, and a NaN or a number below zero a NaN.
--- Definitions only. proofs/RootNearest.antt shows that no number of the format is nearer, and that a tie does not occur.
+-- Rule F8: the square root, worked out in whole numbers. Definitions only. proofs/RootNearest.antt shows that no number of the format is nearer, and that a
+-- tie does not occur.
 use Prim.Native.Nat.{ℕ, zero, suc, _+_, _-_, _*_, _/_, _^_}
 use mathlib.Core.Bool.{true, false, cond}
 use lib.Dec.{ltb}
@@ -25,7 +25,7 @@ inUnits nan = 0
 inUnits (inf s) = 0
 inUnits (fin s m e) = m * up e * 2 ^ 1074 / down e
 
--- The root of n units is that of n * 2^1074, in units.
+-- Rule F8: zeros and +inf are their own roots; that of a NaN, or of what is below zero, is a NaN. The root of n units is that of n * 2^1074, in units.
 unfoldable pub root : Float → Float
 root nan = nan
 root (inf true) = nan

@@ -1,4 +1,4 @@
--- `total_cmp`: the numbers by their order, -0 before +0, a NaN above every number. Definitions only.
+-- `total_cmp` (rule F5). Definitions only.
 use Prim.Native.Nat.{zero, suc}
 use mathlib.Core.Bool.{Bool, true, false, cond, not, _&&_, _||_}
 use lib.Ieee.{Float, fin, inf, nan, lt}
@@ -8,7 +8,7 @@ use Rattle.float.specs.Number.{real}
 abbrev pub lex : {A : Type 0} → (A → A → Bool) → (A → A → Bool) → A → A → Bool
 lex R S x y = R x y || (not (R y x) && S x y)
 
--- the lesser number; a NaN is above every number
+-- Rule F5: the lesser number; a NaN is above every number
 unfoldable pub lessNumber : Float → Float → Bool
 lessNumber x y = cond (real x) (cond (real y) (lt x y) true) false
 
@@ -22,6 +22,6 @@ minusZero (fin true (suc m) e) = false
 unfoldable pub lessZero : Float → Float → Bool
 lessZero x y = minusZero x && not (minusZero y)
 
--- x comes before y in the total order
+-- Rule F5: x comes before y, by number and then -0 before 0
 unfoldable pub totalLess : Float → Float → Bool
 totalLess x y = lex lessNumber lessZero x y

@@ -1,4 +1,4 @@
-// The float calls that Rattle lacks, by the rules of documents 01 and 02: the infinity, `abs`, `min`, `max`, `total_cmp` and `sqrt`.
+// The float calls that Rattle lacks (rules F3 to F8): the infinity, `abs`, `min`, `max`, `total_cmp` and `sqrt`.
 // Each answers on every f64. The laws of the order and of rounding, which the other layers cite, stand in proofs/.
 mod square_root; // square_root.rt: the square root
 
@@ -29,7 +29,7 @@ pub fn magnitude(x: f64) -> f64
     x
 }
 
-// The lesser of the running number and x: a NaN yields the other, and of numerically equal ones the running one is kept.
+// The lesser of the running number and x (rule F4): a NaN gives way, and beside an equal number the running one stays.
 pub fn lesser(run: f64, x: f64) -> f64
     ensures { λ r. ⌜ r ≡ lesser run x ⌝ }
 {
@@ -42,7 +42,7 @@ pub fn lesser(run: f64, x: f64) -> f64
     run
 }
 
-// The greater of the running number and x: a NaN yields the other, and of numerically equal ones the running one is kept.
+// The greater of the running number and x (rule F4): a NaN gives way, and beside an equal number the running one stays.
 pub fn greater(run: f64, x: f64) -> f64
     ensures { λ r. ⌜ r ≡ greater run x ⌝ }
 {

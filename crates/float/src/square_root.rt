@@ -8,7 +8,7 @@ ghost use lib.Dec.{T, ltb};
 ghost use lib.Ieee.Positive.{positive};
 ghost use Rattle.float.specs.Root.{digits, nearestRoot, rootOf, root};
 
-// The square root of x. -0 gives -0, +inf itself, and a NaN or a number below zero a NaN.
+// The square root of x (rule F8). Of a zero and of +inf it is x itself; of a NaN, and of whatever is below zero, a NaN.
 pub fn root(x: f64) -> f64
     ensures { λ r. ⌜ r ≡ root x ⌝ }
 {

@@ -1,4 +1,4 @@
--- The ladder of refusals: a call is refused by the first of its checks that fails. Definitions only.
+-- The ladder of refusals (section R of docs/RULES.md): a call is refused by the first of its checks that fails. Definitions only.
 use mathlib.Core.Bool.{Bool, cond, not}
 use mathlib.Core.List.{List, [], _∷_}
 use Prim.Native.Nat.{ℕ, _/_, _%_}
@@ -35,14 +35,14 @@ unfoldable pub unless : {A : Type 0} → List Check → (ℕ → ℕ → A) → 
 unless checks refused served = answered (firstFailed checks) refused served
 
 -- ---- the two checks with which every call over a mesh begins
--- twelve numbers each
+-- Rule D1: twelve numbers each
 abbrev pub triangleCount : List Float → ℕ
 triangleCount mesh = length mesh / 12
 
--- 1, triangles not a multiple of twelve long
+-- Refusal 1: not in twelves
 abbrev pub ragged : List Float → Check
 ragged mesh = check (not (eqb (length mesh % 12) 0)) 1 0
 
--- 2, too many of them
+-- Refusal 2: too many of them
 abbrev pub crowded : List Float → Check
 crowded mesh = check (ltb most-triangles (triangleCount mesh)) 2 (triangleCount mesh)

@@ -1,18 +1,18 @@
 -- The limits, each said once. Definitions only.
 use Prim.Native.Nat.{ℕ}
 
--- n at most 65,536
+-- Rule D7: the triangles of a mesh
 abbrev pub most-triangles : ℕ
 most-triangles = 65536
 
--- the 2n-1 nodes that they can have
+-- Rule D7: the nodes of a tree, 2n-1 of so many triangles
 abbrev pub most-nodes : ℕ
 most-nodes = 131071
 
--- no node of a built tree is deeper than 63 (root 0)
+-- Rule D7: the depth of a built node, where the root's is 0
 abbrev pub deepest : ℕ
 deepest = 63
 
--- at most 64 pending node numbers
+-- Rule D7: the nodes that a walk keeps for later
 abbrev pub most-pending : ℕ
 most-pending = 64

@@ -17,7 +17,7 @@ occ v (x ∷ xs) = occurs v x + occ v xs
 abbrev pub Perm : List ℕ → List ℕ → Type 0
 Perm xs ys = (v : ℕ) → occ v xs ≡ occ v ys
 
--- 0, 1, .., n - 1
+-- Rule C1: 0, 1, .., n - 1
 unfoldable pub upTo : ℕ → List ℕ
 upTo zero = []
 upTo (suc n) = upTo n ++ (n ∷ [])

@@ -1,4 +1,4 @@
--- Each exported call's promise fixes its number and the final content of everything lent: any two that it allows are equal. Assumes nothing.
+-- Each exported call's promise fixes its number and what all that is lent holds at the end: any two that it allows are equal. Assumes nothing.
 use Prim.Native.Nat.{ℕ}
 use mathlib.Core.Path.{_≡_, sym, ap, _∙_}
 use mathlib.Core.List.{List}

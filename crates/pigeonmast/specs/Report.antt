@@ -1,4 +1,4 @@
--- What each exported call answers and leaves in the lent arrays, as the comment at the call says (src/lib.rt). Definitions only.
+-- What each exported call answers and leaves in the lent arrays (rules X1 to X6), as the comment at the call says (src/lib.rt). Definitions only.
 use Prim.Native.Nat.{ℕ}
 use mathlib.Core.Bool.{cond}
 use mathlib.Core.List.{List, [], _∷_}
@@ -21,7 +21,7 @@ use Rattle.sky.specs.declared.Filled.{Filled}
 use Rattle.sky.specs.declared.Filled.the-variants.{Places, Refused as Unfilled}
 use Rattle.sky.specs.Sky.{Filling}
 
--- ---- pigeonmast_abi
+-- ---- pigeonmast_abi (rule X5)
 -- the number of the calls' form, PIGEONMAST_ABI of the C header
 abbrev pub abi : ℕ
 abi = 1
@@ -40,12 +40,12 @@ frontNumber h = cond (h .front) 1 0
 unfoldable pub sideNumber : Hit → ℕ
 sideNumber h = cond (h .front) 2 1
 
--- a triangle: v0, v1, v2, normal
+-- Rule X6: a triangle: v0, v1, v2, normal
 unfoldable pub triangleNumbers : Triangle → List Float
 triangleNumbers a =
     a .v0 .x ∷ a .v0 .y ∷ a .v0 .z ∷ a .v1 .x ∷ a .v1 .y ∷ a .v1 .z ∷ a .v2 .x ∷ a .v2 .y ∷ a .v2 .z ∷ a .normal .x ∷ a .normal .y ∷ a .normal .z ∷ []
 
--- ---- pigeonmast_build
+-- ---- pigeonmast_build (rule X1)
 -- the number, and what told, the index list, the boxes and the links hold at the end
 pub record Build : Type 0 where
   pub answer : ℕ
@@ -70,7 +70,7 @@ buildTold (Refused number at) = at ∷ 0 ∷ []
 unfoldable pub buildReport : Outcome → Build
 buildReport o = build (buildAnswer (o .answer)) (buildTold (o .answer)) (o .index) (o .boxes) (o .links)
 
--- ---- pigeonmast_walk
+-- ---- pigeonmast_walk (rule X2)
 -- the number, and what numbers and told hold at the end
 pub record Walk : Type 0 where
   pub answer : ℕ
@@ -90,7 +90,7 @@ walkReport (numbered number at) hit boxes triangles numbers = walk number number
 unfoldable pub walked : Told → List Float → Walk
 walked a numbers = walkReport (a .refusal) (a .hit) (a .boxes) (a .triangles) numbers
 
--- ---- pigeonmast_sky
+-- ---- pigeonmast_sky (rule X3)
 -- the number, and what at, times and told hold at the end
 pub record Sky : Type 0 where
   pub answer : ℕ
@@ -113,7 +113,7 @@ skyAt (Unfilled number at) = at ∷ []
 unfoldable pub skyReport : Filling → Sky
 skyReport o = sky (skyAnswer (o .answer)) (skyAt (o .answer)) (o .times) (o .told)
 
--- ---- pigeonmast_slab and pigeonmast_triangle
+-- ---- pigeonmast_slab and pigeonmast_triangle (rule X4)
 -- the number, and what times or numbers hold at the end
 pub record Test : Type 0 where
   pub answer : ℕ
@@ -132,7 +132,7 @@ unfoldable pub triangleReport : Found → List Float → Test
 triangleReport (At h) numbers = test (sideNumber h) (hitNumbers h)
 triangleReport Nothing numbers = test 0 numbers
 
--- ---- pigeonmast_normals
+-- ---- pigeonmast_normals (rule X6)
 -- the number, and what told and the triangles hold at the end
 pub record Normals : Type 0 where
   pub answer : ℕ

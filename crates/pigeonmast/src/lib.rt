@@ -224,7 +224,7 @@ pub extern "C" fn pigeonmast_walk(
 }
 
 // Walks every ray of `rays` (six numbers each: origin, direction) through the tree. 0 and at = 0: times has t of each ray's hit, else 0, and told
-// four numbers a ray: outcome (0 a miss, 100 a hit, else the refusal number), triangle or the refusal's at, box tests, triangle tests; room beyond
+// four numbers a ray: outcome (0 a miss, 100 a hit, or a refusal), the triangle's number or the refusal's at, box tests, triangle tests; room beyond
 // the rays stays. Or refusal 1, 2, 14 or 13 of the whole call (`sky::sky`) with its at; times and told stay unchanged.
 #[no_mangle]
 pub extern "C" fn pigeonmast_sky(
@@ -266,7 +266,7 @@ pub extern "C" fn pigeonmast_triangle(
     tell_triangle(found, numbers)
 }
 
-// The square root of x, rounded to nearest even. -0 gives -0, +inf itself, and a NaN or a number below zero a NaN.
+// The square root of x (rule F8). Of a zero and of +inf it is x itself; of a NaN, and of whatever is below zero, a NaN.
 #[no_mangle]
 pub extern "C" fn pigeonmast_root(x: f64) -> f64
     ensures { λ r. ⌜ r ≡ root x ⌝ }

@@ -1,4 +1,4 @@
--- The survey's input, measured whole. Definitions only.
+-- The survey's input, measured whole (rules I1 and I2). Definitions only.
 use Prim.Native.Nat.{ℕ, _+_, _*_}
 use mathlib.Core.Bool.{Bool, cond, _&&_}
 use mathlib.Core.List.{List}
@@ -8,11 +8,11 @@ use Rattle.report.specs.Little.{word}
 use Rattle.report.specs.declared.input.Input.{Input}
 use Rattle.report.specs.declared.input.Input.the-variants.{Good, Bad}
 
--- At most 200 of each
+-- Rule I2: triangles at most, and rays
 abbrev pub most : ℕ
 most = 200
 
--- sections in a fixed order, each after its count: u32 little-endian count and triangles, of twelve numbers each; count and rays
+-- Rule I1: where the triangles start, where the second count stands, and where the rays start
 abbrev pub trianglesAt : ℕ
 trianglesAt = 4
 
@@ -22,15 +22,15 @@ countAt n = 4 + 96 * n
 abbrev pub raysAt : ℕ → ℕ
 raysAt n = 8 + 96 * n
 
--- how long an input with n triangles and m rays of six numbers each is
+-- Rule I2: how long an input with n triangles and m rays of six numbers each is
 abbrev pub wholeLength : ℕ → ℕ → ℕ
 wholeLength n m = countAt n + 4 + 48 * m
 
--- neither cut nor overlong nor over the limit
+-- Rule I2: neither count is too high, and there are just as many bytes
 unfoldable pub fine : ℕ → ℕ → ℕ → Bool
 fine bytes n m = leb n most && (leb m most && eqb bytes (wholeLength n m))
 
--- Cut, overlong or over the limit: bad
+-- Rule I2: all else is bad
 unfoldable pub measuredBy : ℕ → ℕ → ℕ → Input
 measuredBy bytes n m = cond (fine bytes n m) (Good n m) Bad
 

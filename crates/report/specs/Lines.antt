@@ -8,7 +8,7 @@ use Rattle.lent.specs.Ladder.{Refusal, none, numbered}
 use Rattle.walk.specs.Answer.{Told}
 use Rattle.report.specs.Text.{hexadecimal, newline, named, pair}
 
--- Cut, overlong or over the limit: the one line `bad input`
+-- Rule I4: "bad input"
 abbrev pub badInput : List ℕ
 badInput = 98 ∷ 97 ∷ 100 ∷ 32 ∷ 105 ∷ 110 ∷ 112 ∷ 117 ∷ 116 ∷ 10 ∷ []
 
@@ -56,23 +56,23 @@ refused = 32 ∷ 114 ∷ 101 ∷ 102 ∷ 117 ∷ 115 ∷ 101 ∷ 100 ∷ 32 ∷ 
 abbrev pub space : List ℕ
 space = 32 ∷ []
 
--- A refused build: `build refused N at M` alone
+-- Rule I5: build refused N at M
 unfoldable pub buildRefusedLine : ℕ → ℕ → List ℕ
 buildRefusedLine number at = pair buildRefused number inPlace at
 
--- nodes N leaves L
+-- Rule I6: nodes N leaves L
 unfoldable pub builtLine : ℕ → ℕ → List ℕ
 builtLine n l = pair nodes n leaves l
 
--- ray K hit I t X tests B C: the ray's and the triangle's number, the sixteen hex digits of t's bits, box tests and triangle tests
+-- Rule I6: ray K hit I t X tests B C: the ray's and the triangle's number, the sixteen hex digits of t's bits, box tests and triangle tests
 unfoldable pub hitLine : ℕ → ℕ → ℕ → ℕ → ℕ → List ℕ
 hitLine k i x b c = named ray k ++ named hit i ++ distance ++ hexadecimal x ++ pair tests b space c
 
--- ray K miss tests B C
+-- Rule I6: ray K miss tests B C
 unfoldable pub missLine : ℕ → ℕ → ℕ → List ℕ
 missLine k b c = named ray k ++ pair miss b space c
 
--- ray K refused N
+-- Rule I6: ray K refused N
 unfoldable pub refusedLine : ℕ → ℕ → List ℕ
 refusedLine k n = pair ray k refused n
 

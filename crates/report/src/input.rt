@@ -1,4 +1,4 @@
-// The input, measured: sections in a fixed order, each after its count, a u32 of four little-endian bytes.
+// The input, measured (rules I1 and I2): how many triangles, the triangles, how many rays, the rays.
 ghost use mathlib.Core.Path.{_≡_};
 ghost use Prim.Native.Nat.{_+_, _<_, _≤_};
 ghost use lib.ListN.{length};
@@ -27,7 +27,7 @@ pub fn word(s: &[u8], at: usize) -> u64
     low + 65536 * high
 }
 
-// How many triangles and rays the input holds. Cut, overlong or over the limit of 200 of each: bad.
+// How many triangles and rays the input holds; bad where a count is above 200, or the input is not as long as the counts say.
 pub fn measure(input: &[u8]) -> Input
     ensures { λ r. ⌜ r ≡ measured (now (input .entry)) ⌝ }
 {

@@ -1,4 +1,4 @@
-// The work of the little survey program of document 01: the input's bytes are measured and read, the tree is built, each ray is walked,
+// The work of the survey program (rules I1 to I6): the input's bytes are measured and read, the tree is built, each ray is walked,
 // and the report is written as text. The program itself only reads, calls `survey` and writes.
 mod input; // input.rt: the input, measured
 mod number; // number.rt: numbers of the input
@@ -18,7 +18,7 @@ ghost use Rattle.report.specs.Text.{Wrote};
 ghost use Rattle.report.specs.Survey.{rayLines, reported, surveyed};
 
 // The report of an input, as text at the front of `out`, and how many bytes of it there are; the rest of `out` stays. One line, `bad input`,
-// where the input is cut, overlong or over the limit; one line where the build is refused; else the tree's counts and a line for each ray.
+// where the input is not what rule I2 says; one line where the build is refused; else the tree's counts and a line for each ray.
 // 25,728 bytes are 201 lines of 128.
 pub fn survey(input: &[u8], out: &mut [u8; 25728]) -> usize
     ensures { λ r. ⌜ Wrote (now (out .entry)) 0 (surveyed (now (input .entry))) (now (out .exit)) r ⌝ }

@@ -59,7 +59,7 @@ module _ (s : Lent) (rays : List Float) where
       time : getD (records (timesFor s rays) n ++ drop n times) k nan ≡ placeFor s rays k .t
       time = records-at (timesFor s rays) 1 (λ i. refl) n (drop n times) k k 0 nan h (omega arith) (omega arith)
 
-  -- Place k is what the single walk gives for ray k
+  -- Place k tells the walk of ray k
   pub place-k : (times : List Float) (told : List ℕ) (n k : ℕ) → k < n
       → placeAt (records (timesFor s rays) n ++ drop n times) (records (toldFor s rays) n ++ drop (n * 4) told) k ≡ placeOf (walk s (rayAt rays k))
   unfolding placeFor

@@ -1,4 +1,4 @@
--- A sky of rays in one call: what it answers and leaves in the lent answer room, through the single walk's definition. Definitions only.
+-- Many rays at once (rules K1 to K4): what the call answers and leaves in the lent answer room, through the single walk's definition. Definitions only.
 use Prim.Native.Nat.{ℕ, _+_, _*_, _/_, _%_}
 use mathlib.Core.Bool.{not}
 use mathlib.Core.List.{List, [], _∷_, _++_}
@@ -18,12 +18,12 @@ use Rattle.sky.specs.declared.Filled.{Filled}
 use Rattle.sky.specs.declared.Filled.the-variants.{Places, Refused}
 use Rattle.sky.specs.declared.Place.{Place}
 
--- six numbers a ray: origin, direction
+-- Rule D6: six numbers a ray
 abbrev pub rayCount : List Float → ℕ
 rayCount rays = length rays / 6
 
 -- ---- one place
--- outcome (0 miss, 100 hit, else the refusal number), triangle (or a refusal's `at`), t and the two counts, 0 where none applies
+-- Rule K2: how the walk ended, what was hit or refused, t, and both counts; zeros for what there isn't
 unfoldable pub placed : Refusal → Found → ℕ → ℕ → Place
 placed none (At h) boxes triangles = record { outcome = 100; which = h .triangle; t = h .t; boxes = boxes; triangles = triangles }
 placed none Nothing boxes triangles = record { outcome = 0; which = 0; t = nought; boxes = boxes; triangles = triangles }
@@ -32,18 +32,18 @@ placed (numbered number at) hit boxes triangles = record { outcome = number; whi
 unfoldable pub placeOf : Told → Place
 placeOf a = placed (a .refusal) (a .hit) (a .boxes) (a .triangles)
 
--- Place k must be what the single walk gives for ray k, refusals included
+-- Rule K1: as the single walk of the ray
 unfoldable pub placeFor : Lent → List Float → ℕ → Place
 placeFor s rays k = placeOf (walk s (rayAt rays k))
 
--- told four a ray: outcome, triangle or at, box tests, triangle tests
+-- Rule K2: four whole numbers a place
 abbrev pub toldOf : Place → List ℕ
 toldOf p = p .outcome ∷ p .which ∷ p .boxes ∷ p .triangles ∷ []
 
 abbrev pub toldFor : Lent → List Float → ℕ → List ℕ
 toldFor s rays k = toldOf (placeFor s rays k)
 
--- times one a ray
+-- Rule K2: and one float
 abbrev pub timesFor : Lent → List Float → ℕ → List Float
 timesFor s rays k = placeFor s rays k .t ∷ []
 
@@ -67,12 +67,12 @@ pub record Filling : Type 0 where
 abbrev pub filling : Filled → List Float → List ℕ → Filling
 filling answer times told = record { answer = answer; times = times; told = told }
 
--- one place for each of n rays; room beyond them stays
+-- Rule K3: one place for each of n rays; room beyond them stays
 unfoldable pub filled : Lent → List Float → ℕ → List Float → List ℕ → Filling
 filled s rays n times told = filling Places (records (timesFor s rays) n ++ drop n times) (records (toldFor s rays) n ++ drop (n * 4) told)
 
--- 1 and 2 refuse the whole call; 14, ray slice not a multiple of six, before 13; 13, answer room too short, in times or in told, after 2 and
--- before any ray. A refused call writes nothing
+-- Rule K4: the whole call is refused, and writes nothing, for the mesh (1, 2), for rays that are not in sixes (14), and for room that is too short in
+-- times or in told (13)
 unfoldable pub sky : Lent → List Float → List Float → List ℕ → Filling
 sky s rays times told =
     unless

@@ -1,4 +1,4 @@
-// A sky of rays in one call: each ray's walk, told in lent answer room, one place a ray. The Rust casts its rays one by one; this has no
+// A sky of rays (rules K1 to K4): each ray's walk, told in lent answer room, one place a ray. The Rust casts its rays one by one; this has no
 // counterpart there.
 use aabb::Ray;
 use walk::Answer;
@@ -11,14 +11,14 @@ ghost use Rattle.tree.specs.Lent.{lent};
 ghost use Rattle.walk.specs.Answer.{told as answered};
 ghost use Rattle.sky.specs.Sky.{placeOf, toldOf, timesFor, toldFor, filling, sky};
 
-// What the call answers: every ray's place is filled, or the whole call is refused, with document 02's number and `at`.
+// What the call answers: every ray's place is filled, or the whole call is refused, with a number and `at`.
 pub enum Filled {
     Places,
     Refused { number: u32, at: u64 },
 }
 
-// What one place holds: 0 for a miss, 100 for a hit, else the refusal number; the triangle, or a refusal's `at`; t; the box tests and the
-// triangle tests. 0 where none applies.
+// What one place holds (rule K2): 0 for a miss, 100 for a hit, else the refusal number; which triangle, or where it was refused; t; the box
+// tests and the triangle tests; zeros for what there isn't.
 pub struct Place {
     pub outcome: u64,
     pub which: u64,
@@ -101,7 +101,7 @@ fn fill(
 // The walk of every ray, six numbers each: origin, direction. Place k is what `walk` answers for ray k: times[k] is t of a hit, else 0, and
 // told[4k..4k+4] are the outcome (0 a miss, 100 a hit, else the refusal number), the triangle or the refusal's `at`, the box tests and the
 // triangle tests, 0 where none applies. A refused ray does not stop the rest; room beyond the rays stays. The whole call is refused, in this
-// order, and then writes nothing: 1 triangles not a multiple of 12 long; 2 more than 65,536 of them; 14 rays not a multiple of six long;
+// order, and then writes nothing: 1 triangles that are not in twelves; 2 more than 65,536 of them; 14 rays that are not in sixes;
 // 13 times shorter than one a ray or told shorter than four.
 pub fn sky(
     triangles: &[f64],

@@ -1,4 +1,4 @@
--- Two predicates of lent lists and the tree that they hold: what demand 3 needs, and what is accepted of a tree built elsewhere, which is more.
+-- Two predicates of lent lists and the tree that they hold (rules G1 and G2): what demand 3 needs, and what is accepted of a stranger's tree, which is more.
 -- Definitions only.
 use mathlib.Core.Path.{_≡_}
 use mathlib.Core.Bool.{false}
@@ -14,7 +14,7 @@ use Rattle.tree.specs.Node.{misfit}
 use Rattle.tree.specs.Tree.{Tree, size, depth, held}
 use Rattle.tree.specs.Holds.{Holds, Nested, Finite, Occupied, Bare, covering, Snug, ChildOf, OnlyChild}
 
--- a tree over admitted triangles, shallow enough, with nested boxes and as many places in its leaves as the index list has
+-- Rule G1: a tree over admitted triangles, shallow enough, with nested boxes and as many places in its leaves as the index list has
 pub record Walkable (s : Lent) (t : Tree) : Type 0 where
   pub whole : length (s .mesh .triangles) % 12 ≡ 0
   pub few : triangleCount (s .mesh .triangles) ≤ most-triangles
@@ -28,14 +28,14 @@ pub record Walkable (s : Lent) (t : Tree) : Type 0 where
   pub nested : Nested t
   pub covers : held t ≡ length (s .tree .index)
 
--- request A8's conditions (i) to (vi)
+-- Rule G2: request A8's conditions, (i) to (vi)
 pub record Accepted (s : Lent) (t : Tree) : Type 0 where
   pub walkable : Walkable s t
-  -- (i): where there are triangles every box is finite and no leaf is empty; where there are none, one leaf of none
+  -- (i): where there are triangles no box is without end and no leaf empty; where there are none, one leaf of none
   pub finite : 0 < triangleCount (s .mesh .triangles) → Finite t
   pub occupied : 0 < triangleCount (s .mesh .triangles) → Occupied t
   pub bare : triangleCount (s .mesh .triangles) ≡ 0 → Bare t
-  -- (ii): every node but 0 is the child of exactly one, and 0 of none
+  -- (ii): a node has one parent, and node 0 has none
   pub once : (j : ℕ) → 0 < j → j < nodeCount (s .tree .links) → OnlyChild (s .tree) j
   pub root : (i : ℕ) → i < nodeCount (s .tree .links) → ChildOf (s .tree) i 0 → ⊥
   -- (iii): every node is one of the tree's

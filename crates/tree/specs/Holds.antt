@@ -16,7 +16,7 @@ use Rattle.tree.specs.Lent.{Lists, nodeCount}
 use Rattle.tree.specs.Node.{leftOrFirst, nodeOf, leftOf, rightOf}
 use Rattle.tree.specs.Tree.{Tree, leaf, internal, boxOf}
 
--- ---- the lists hold the tree at node i
+-- ---- the lists hold the tree at node i (rules D5 and G1)
 pub record IsLeaf (s : Lists) (x : Node) (b : Aabb) (p c : ℕ) : Type 0 where
   pub bounds : x .bounds ≡ b
   pub first : leftOrFirst x ≡ p
@@ -35,7 +35,7 @@ abbrev pub Holds : Lists → ℕ → Tree → Type 0
 Holds s i (leaf b p c) = IsLeaf s (nodeOf s i) b p c
 Holds s i (internal b u v) = IsInternal s i (nodeOf s i) b × Holds s (leftOf i (nodeOf s i)) u × Holds s (rightOf i (nodeOf s i)) v
 
--- ---- each box is usable, and below the root it is bounded and lies in the box above it
+-- ---- each box is usable, and below the root it is bounded and lies in the box above it (rule G1)
 abbrev pub Inside : Aabb → Tree → Type 0
 Inside b t = T (bounded (boxOf t)) × T (contains b (boxOf t))
 
@@ -43,7 +43,7 @@ abbrev pub Nested : Tree → Type 0
 Nested (leaf b p c) = T (usable b)
 Nested (internal b u v) = T (usable b) × Inside b u × Inside b v × Nested u × Nested v
 
--- ---- every box is finite, and every leaf has a triangle
+-- ---- no box is empty or without end, and no leaf without a triangle (rule G2)
 abbrev pub Finite : Tree → Type 0
 Finite (leaf b p c) = T (bounded b)
 Finite (internal b u v) = T (bounded b) × Finite u × Finite v
@@ -52,17 +52,17 @@ abbrev pub Occupied : Tree → Type 0
 Occupied (leaf b p c) = 0 < c
 Occupied (internal b u v) = Occupied u × Occupied v
 
--- one leaf of none, at 0, with the empty box
+-- Rule G2: one leaf of none, at 0, with the empty box
 abbrev pub Bare : Tree → Type 0
 Bare (leaf b p c) = T (isEmpty b) × (p ≡ 0) × (c ≡ 0)
 Bare (internal b u v) = ⊥
 
--- ---- how many leaves have place q in their range
+-- ---- how many leaves have place q in their range (rule G2)
 abbrev pub covering : ℕ → Tree → ℕ
 covering q (leaf b p c) = cond (leb p q && ltb q (p + c)) 1 0
 covering q (internal b u v) = covering q u + covering q v
 
--- ---- each leaf's box holds the vertices of its triangles
+-- ---- each leaf's box holds the vertices of its triangles (rule G2)
 abbrev pub HoldsVertices : Aabb → Triangle → Type 0
 HoldsVertices b a = T (holds b (a .v0)) × T (holds b (a .v1)) × T (holds b (a .v2))
 
@@ -74,7 +74,7 @@ Snug mesh index (internal b u v) = Snug mesh index u × Snug mesh index v
 abbrev pub ChildOf : Lists → ℕ → ℕ → Type 0
 ChildOf s i j = (nodeOf s i .kind ≡ 0) × ((j ≡ leftOf i (nodeOf s i)) ⊎ (j ≡ rightOf i (nodeOf s i)))
 
--- exactly one node has node j as a child
+-- Rule G2: exactly one node has node j as a child
 pub record OnlyChild (s : Lists) (j : ℕ) : Type 0 where
   pub parent : ℕ
   pub inside : parent < nodeCount (s .links)

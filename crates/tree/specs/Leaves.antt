@@ -35,11 +35,11 @@ leavesOf s (internal b u v) = leavesOf s u ++ leavesOf s v
 abbrev pub SameLeaf : Leaf → Leaf → Type 0
 SameLeaf x y = (x .box ≡ y .box) × SameNumbers (x .holds) (y .holds)
 
--- each leaf of the one tree is the same as a leaf of the other, and the other way
+-- Rule G5: each leaf of the one tree is the same as a leaf of the other, and the other way
 abbrev pub SameLeaves : List Leaf → List Leaf → Type 0
 SameLeaves xs ys = ((x : Leaf) → Member x xs → Some (SameLeaf x) ys) × ((y : Leaf) → Member y ys → Some (SameLeaf y) xs)
 
--- ---- another index list in place of the tree's own: as long, its entries below n, and in each leaf the same triangles
+-- ---- another index list in place of the tree's own (rule G5): as long, its entries below n, and in each leaf the same triangles
 abbrev pub listsWith : Lists → List ℕ → Lists
 listsWith s order = record { index = order; boxes = s .boxes; links = s .links }
 

@@ -4,11 +4,11 @@ use mathlib.Core.List.{List}
 use lib.ListN.{length}
 use lib.Ieee.{Float}
 
--- twelve numbers a triangle
+-- Rule D1: twelve numbers a triangle
 pub record Mesh : Type 0 where
   pub triangles : List Float
 
--- triangle numbers; six numbers of box a node; three links a node
+-- Rules D2 and D3: triangle numbers; six numbers of box a node; three links a node
 pub record Lists : Type 0 where
   pub index : List ℕ
   pub boxes : List Float

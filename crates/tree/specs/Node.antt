@@ -1,4 +1,4 @@
--- A node of the lent lists, and its children. Definitions only.
+-- A node of the lent lists, and its children (rules D3, D4, N5). Definitions only.
 use Prim.Native.Nat.{ℕ, _+_, _*_, _%_}
 use mathlib.Core.Bool.{Bool, not, _&&_, _||_}
 use mathlib.Core.List.{List}
@@ -14,29 +14,29 @@ use Rattle.tree.specs.Lent.{Lists, nodeCount}
 abbrev pub leftOrFirst : Node → ℕ
 leftOrFirst x = x .«left_or_first»
 
--- `left_or_first`, `count` and kind: 1 leaf, 0 internal
+-- Rule D3: `left_or_first`, `count` and kind of node i
 unfoldable pub linked : Aabb → List ℕ → ℕ → Node
 linked b links i = record { bounds = b; «left_or_first» = getD links (i * 3) 0; count = getD links (i * 3 + 1) 0; kind = getD links (i * 3 + 2) 0 }
 
--- six numbers of box, and three links
+-- Rule D3: its box and its links
 unfoldable pub nodeAt : List Float → List ℕ → ℕ → Node
 nodeAt boxes links i = linked (boxAt boxes i) links i
 
 abbrev pub nodeOf : Lists → ℕ → Node
 nodeOf s i = nodeAt (s .boxes) (s .links) i
 
--- not a bad kind, an unusable box, or internal with a count
+-- Rule N5: a usable box, and a kind that there is; an internal node has no count
 unfoldable pub sound : Node → Bool
 sound x = usable (x .bounds) && (eqb (x .kind) 1 || (eqb (x .kind) 0 && eqb (x .count) 0))
 
--- the children of node i, which is x: told by its number and by what stands there
+-- Rule D4: the children of node i, which is x: told by its number and by what stands there
 unfoldable pub leftOf : ℕ → Node → ℕ
 leftOf i x = leftOrFirst x
 
 unfoldable pub rightOf : ℕ → Node → ℕ
 rightOf i x = leftOrFirst x + 1
 
--- refusal 8: no links, not in threes, too many nodes, or boxes not twice as long
+-- Refusal 8: no links, not in threes, too many nodes, or another number of boxes
 unfoldable pub misfit : List Float → List ℕ → Bool
 misfit boxes links =
     eqb (length links) 0

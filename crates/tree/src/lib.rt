@@ -65,7 +65,7 @@ impl Node {
         cut(bounds, links, i)
     }
 
-    // Whether a walk can use it: not a bad kind, an unusable box, or internal with a count.
+    // Whether a walk can use it (rule N5): a leaf, or an internal node without a count, with a usable box.
     pub fn sound(self) -> bool
         ensures { λ r. ⌜ r ≡ sound self ⌝ }
     {
@@ -95,7 +95,7 @@ impl Node {
     }
 }
 
-// Refusal 8: links empty, not a multiple of 3, over the most nodes, or boxes not twice as long as links.
+// Refusal 8: no links, links that are not in threes, more nodes than a tree may have, or another number of boxes than of nodes.
 pub fn misfit(boxes: &[f64], links: &[u32]) -> bool
     ensures { λ r. ⌜ r ≡ misfit (now (boxes .entry)) (now (links .entry)) ⌝ }
 {

@@ -1,4 +1,4 @@
--- A ray against a triangle, by Möller and Trumbore as triangle.rs has it. Definitions only.
+-- A ray against a triangle, by Möller and Trumbore as triangle.rs has it (rules T3 to T5). Definitions only.
 use Prim.Native.Nat.{ℕ}
 use mathlib.Core.Bool.{Bool, true, false, not, _&&_, _||_, cond}
 use lib.Ieee.{Float, binary64, add, mul, div, lt, le}
@@ -15,6 +15,7 @@ use Rattle.triangle.specs.declared.Distance.{Distance}
 use Rattle.triangle.specs.declared.Distance.the-variants.{To, None}
 
 -- ---- the numbers of the test, by the file's names
+-- Rule T3: from the edges on to t
 unfoldable pub edge1 : Triangle → Vec3
 edge1 a = minus (a .v1) (a .v0)
 
@@ -45,7 +46,7 @@ vOf r a = mul binary64 (dot (r .direction) (qvec r a)) (invDet r a)
 unfoldable pub tOf : Ray → Triangle → Float
 tOf r a = mul binary64 (dot (edge2 a) (qvec r a)) (invDet r a)
 
--- none if |det| < 1e-10; if u isn't in 0..=1; if v < 0 or u+v > 1; if t <= 1e-6
+-- Rule T4: four tests in a row, and t where all are stood
 unfoldable pub judged : Float → Float → Float → Float → Distance
 judged d u v t =
     cond (lt (magnitude d) ten-billionth) None
@@ -56,10 +57,11 @@ judged d u v t =
 unfoldable pub distance : Ray → Triangle → Distance
 distance r a = judged (det r a) (uOf r a) (vOf r a) (tOf r a)
 
--- Front when direction·normal < 0; otherwise the normal is negated.
+-- Rule T5: the front is what the ray meets against the normal
 unfoldable pub faces : Ray → Triangle → Bool
 faces r a = lt (dot (r .direction) (a .normal)) nought
 
+-- Rule T5: the normal on the ray's side, with all else that a hit has
 unfoldable pub hitAt : Ray → Triangle → ℕ → Float → Hit
 hitAt r a k t = record { t = t; point = pointAt r t; normal = cond (faces r a) (a .normal) (negated (a .normal)); front = faces r a; triangle = k }
 
@@ -67,6 +69,6 @@ unfoldable pub found : Ray → Triangle → ℕ → Distance → Found
 found r a k None = Nothing
 found r a k (To t) = At (hitAt r a k t)
 
--- what ray r finds of the triangle a, of number k
+-- Rules T4 and T5: what ray r finds of the triangle a, of number k
 unfoldable pub strike : Ray → Triangle → ℕ → Found
 strike r a k = found r a k (distance r a)

@@ -1,4 +1,4 @@
--- Triangles, and the mesh that holds them: twelve numbers each, v0, v1, v2, normal. Definitions only.
+-- Triangles, and the mesh that holds them (rules D1, N2, T1, T2). Definitions only.
 use Prim.Native.Nat.{ℕ, zero, suc, _+_, _*_}
 use mathlib.Core.Bool.{Bool, true, false, _&&_}
 use mathlib.Core.List.{List}
@@ -13,19 +13,19 @@ use Rattle.triangle.specs.declared.Triangle.{Triangle}
 use Rattle.triangle.specs.declared.Unadmitted.{Unadmitted}
 use Rattle.triangle.specs.declared.Unadmitted.the-variants.{At, Nothing}
 
--- triangle i of a mesh
+-- Rule D1: triangle i of a mesh, twelve numbers each
 unfoldable pub triangleAt : List Float → ℕ → Triangle
 triangleAt mesh i = record { v0 = vectorAt mesh (i * 12); v1 = vectorAt mesh (i * 12 + 3); v2 = vectorAt mesh (i * 12 + 6); normal = vectorAt mesh (i * 12 + 9) }
 
--- box of three vertices
+-- Rule T1: the vertices' box
 unfoldable pub boundsOf : Triangle → Aabb
 boundsOf a = ofThree (a .v0) (a .v1) (a .v2)
 
--- centroid ((v0+v1)+v2)/3
+-- Rule T2: their sum, divided by 3
 unfoldable pub centroidOf : Triangle → Vec3
 centroidOf a = divided (plus (plus (a .v0) (a .v1)) (a .v2)) three
 
--- Admitted triangle: vertex numbers finite, magnitude at most 2^40; normal numbers finite, magnitude at most 2
+-- Rule N2: each vertex within 2^40, the normal within 2
 unfoldable pub admittedTriangle : Triangle → Bool
 admittedTriangle a = allWithin two-to-40 (a .v0) && (allWithin two-to-40 (a .v1) && (allWithin two-to-40 (a .v2) && allWithin two (a .normal)))
 
@@ -36,7 +36,7 @@ boundsAt mesh i = boundsOf (triangleAt mesh i)
 unfoldable pub centroidAt : List Float → ℕ → ℕ → Float
 centroidAt mesh axis i = along axis (centroidOf (triangleAt mesh i))
 
--- the lowest of k triangle numbers from i on whose triangle isn't admitted
+-- Refusal 5: the lowest of k triangle numbers from i on whose triangle isn't admitted
 unfoldable pub firstRefused : List Float → ℕ → ℕ → Unadmitted
 firstRefused mesh i zero = Nothing
 firstRefused mesh i (suc k) = elim (admittedTriangle (triangleAt mesh i)) [ true ↦ firstRefused mesh (suc i) k | false ↦ At i ]

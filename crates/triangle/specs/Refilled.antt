@@ -1,4 +1,4 @@
--- The normals of a whole mesh, refilled from its corners: what the call answers and leaves in the mesh, on every input. Definitions only.
+-- A mesh whose normals are worked out anew from its corners (rule T7): what the call answers and leaves in it, on every input. Definitions only.
 use mathlib.Core.Path.{_≡_}
 use Prim.Native.Nat.{ℕ, zero, suc, _+_, _*_, _%_, _<_}
 use mathlib.Core.List.{List, [], _∷_}
@@ -29,7 +29,7 @@ put mesh at v = set (set (set mesh at (v .x)) (at + 1) (v .y)) (at + 2) (v .z)
 abbrev pub normalAt : List Float → ℕ → Vec3
 normalAt mesh i = normalOf (triangleAt mesh i .v0) (triangleAt mesh i .v1) (triangleAt mesh i .v2)
 
--- the mesh with the normal of triangle i refilled
+-- Rule T7: the mesh with the normal of triangle i refilled
 unfoldable pub filled : List Float → ℕ → List Float
 filled mesh i = put mesh (i * 12 + 9) (normalAt mesh i)
 
@@ -38,7 +38,7 @@ unfoldable pub filledFrom : List Float → ℕ → ℕ → List Float
 filledFrom mesh i zero = mesh
 filledFrom mesh i (suc k) = filledFrom (filled mesh i) (suc i) k
 
--- Refusals 1, 2, 5 (lowest number), in this order, leave the mesh unchanged
+-- Rule T7, after the refusals: 1, 2, then 5 with the lowest number, none of which writes
 unfoldable pub refilled : List Float → Outcome
 refilled mesh =
     unless (ragged mesh ∷ crowded mesh ∷ unadmitted (firstRefused mesh 0 (triangleCount mesh)) ∷ []) (λ number at. outcome (Refused number at) mesh)

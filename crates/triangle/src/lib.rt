@@ -1,7 +1,7 @@
 // Triangles and the Möller–Trumbore test: a port of triangle.rs. Every call answers on every f64.
-// Left out, as document 01 says: the conversion from optics_core, `material_id`. The hit carries the triangle's number in
-// place of `surface_index`. A mesh is a lent slice, twelve numbers a triangle: v0, v1, v2, normal.
-mod normals; // normals.rt: Triangle::new, and the normals of a whole mesh
+// Left out: `material_id` and what turns a triangle of optics_core into one. For `surface_index` a hit has the triangle's
+// number. A mesh is a lent slice, twelve numbers a triangle: v0, v1, v2, normal.
+mod normals; // normals.rt: Triangle::new, and the call that refills a mesh
 
 use aabb::Aabb;
 use aabb::Ray;
@@ -110,7 +110,7 @@ impl Triangle {
         self.corners().centroid()
     }
 
-    // Whether it is admitted: vertex numbers finite, magnitude at most 2^40; normal numbers finite, magnitude at most 2.
+    // Whether it is admitted (rule N2): no number of a vertex beyond 2^40 in size, none of the normal beyond 2.
     pub fn admitted(self) -> bool
         ensures { λ r. ⌜ r ≡ admittedTriangle self ⌝ }
     {
@@ -133,7 +133,7 @@ impl Triangle {
         self.corners().distance(ray)
     }
 
-    // The hit at distance t: front when direction·normal < 0, otherwise the normal is negated.
+    // The hit at distance t (rule T5), with the normal turned to the ray's side.
     pub fn hit(self, ray: Ray, t: f64, number: u32) -> Hit
         ensures { λ r. ⌜ r ≡ hitAt ray self number t ⌝ }
     {
@@ -184,7 +184,7 @@ impl Corners {
         Triangle::read(mesh, i).corners()
     }
 
-    // ((v0 + v1) + v2) / 3, by component.
+    // ((v0 + v1) + v2) / 3, by component (rule T2).
     pub fn centroid(self) -> Vec3
         ensures { λ r. ⌜ r ≡ divided (plus (plus (self .v0) (self .v1)) (self .v2)) three ⌝ }
     {

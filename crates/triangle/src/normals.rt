@@ -1,5 +1,5 @@
-// Normals worked out from the corners: `Triangle::new` of triangle.rs (the length's root is float::root), and a call that refills the normals
-// of a whole mesh, which the Rust has not.
+// Normals worked out from the corners (rules T6 and T7): `Triangle::new` of triangle.rs (the length's root is float::root), and a call that does
+// it for every triangle of a mesh, which the Rust has not.
 use crate::Corners;
 use crate::Triangle;
 use crate::Unadmitted;
@@ -10,7 +10,7 @@ ghost use lib.ListN.{length};
 ghost use Rattle.triangle.specs.Normal.{direction, normalOf, newTriangle};
 ghost use Rattle.triangle.specs.Refilled.{outcome, put, filled, filledFrom, refilled};
 
-// What a call answers: the normals are refilled, or document 01's refusal number and its `at`.
+// What a call answers: the normals are refilled, or a refusal's number and its `at`.
 pub enum Refill {
     Done,
     Refused { number: u32, at: usize },
@@ -51,8 +51,8 @@ fn direction(cross: Vec3) -> Vec3
     }
 }
 
-// The normals of a whole mesh, twelve numbers a triangle, worked out from its corners; nothing else in it is touched. Refused, in this order, with the
-// mesh unchanged: 1 it is not a multiple of 12 long; 2 more than 65,536 triangles (at: how many); 5 a triangle isn't admitted (at: the lowest number).
+// Refills every normal of a mesh, twelve numbers a triangle, from the corners (rule T7); no other number changes. Refused, in this order, and then nothing
+// is written: 1 the numbers are not in twelves; 2 more than 65,536 triangles (at: how many); 5 a triangle isn't admitted (at: the lowest number).
 pub fn refill_normals(mesh: &mut [f64]) -> Refill
     ensures { λ r. ⌜ outcome r (now (mesh .exit)) ≡ refilled (now (mesh .entry)) ⌝ }
 {

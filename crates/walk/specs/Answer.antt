@@ -1,4 +1,4 @@
--- The walk's answer: document 01's number and values for every case. Definitions only.
+-- The walk's answer as plain values (rule W8). Definitions only.
 use Prim.Native.Nat.{ℕ}
 use Rattle.lent.specs.Ladder.{Refusal, none, numbered}
 use Rattle.triangle.specs.declared.Found.{Found}
@@ -13,7 +13,7 @@ pub record Told : Type 0 where
   pub boxes : ℕ
   pub triangles : ℕ
 
--- Its answer is one of: a hit with its numbers and counts, a miss with counts, a refusal.
+-- Rule W8: a hit or a miss with what was counted; a refusal alone
 unfoldable pub told : Answer → Told
 told (Struck h b c) = record { refusal = none; hit = At h; boxes = b; triangles = c }
 told (Missed b c) = record { refusal = none; hit = Nothing; boxes = b; triangles = c }

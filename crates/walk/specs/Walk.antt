@@ -1,4 +1,4 @@
--- The walk of one ray through one mesh, with its counts and its refusals, on any lists. Definitions only.
+-- The walk of one ray through one mesh, with its counts and its refusals, on any lists (rules W1 to W8, E1). Definitions only.
 use Prim.Native.Nat.{ℕ, zero, suc, _+_, _*_, _%_}
 use mathlib.Core.Bool.{Bool, not, _||_, cond}
 use mathlib.Core.List.{List, [], _∷_}
@@ -29,14 +29,15 @@ use Rattle.tree.specs.Node.{leftOrFirst, nodeOf, sound, leftOf, rightOf, misfit
 use Rattle.walk.specs.Answer.{Told}
 
 -- ---- the tally: the two counts, and the hit so far, by its t and its triangle's number
+-- Rule W1: nothing counted, nothing found
 abbrev pub start : Tally
 start = record { boxes = 0; triangles = 0; nearest = Unmet }
 
--- counts one box test
+-- Rule W3: counts one box test
 unfoldable pub boxed : Tally → Tally
 boxed a = record { boxes = a .boxes + 1; triangles = a .triangles; nearest = a .nearest }
 
--- whether triangle k, found at t, replaces the hit: at a smaller t it does, and at numerically equal t if its number is lower
+-- Rule E1: whether triangle k, found at t, replaces the hit: at a smaller t it does, and at numerically equal t if its number is lower
 unfoldable pub replaces : Nearest → ℕ → Float → Bool
 replaces Unmet k t = lt t infinity
 replaces (Met u j) k t = cond (ltb k j) (le t u) (lt t u)
@@ -49,12 +50,12 @@ nearer best k (To t) = cond (replaces best k t) (Met t k) best
 unfoldable pub after : List Float → Ray → ℕ → Nearest → Nearest
 after mesh r k best = nearer best k (distance r (triangleAt mesh k))
 
--- A leaf tests each of its triangles, counting one each
+-- Rule W4: triangle k is tested, and the test counted
 unfoldable pub tested : List Float → Ray → ℕ → Tally → Tally
 tested mesh r k a = record { boxes = a .boxes; triangles = a .triangles + 1; nearest = after mesh r k (a .nearest) }
 
 -- ---- one step
--- then for each triangle 10, 5, the test: the index list from place p on, as many entries as the number says
+-- Rule W4: the entries from place p on, as many as the number says. Each is looked at (10), its triangle too (5), and then tested
 unfoldable pub scan : List Float → List ℕ → Ray → ℕ → ℕ → Tally → Turn
 scan mesh index r zero p a = Down a
 scan mesh index r (suc left) p a =
@@ -62,11 +63,11 @@ scan mesh index r (suc left) p a =
     (cond (admittedTriangle (triangleAt mesh (getD index p 0))) (scan mesh index r left (suc p) (tested mesh r (getD index p 0) a))
     (Refuse 5 (getD index p 0)))
 
--- for a leaf: first + count beyond the index list (9)
+-- Rule W4: a range that ends beyond the list refuses the walk (9)
 unfoldable pub openLeaf : List Float → List ℕ → Ray → ℕ → Node → Tally → Turn
 openLeaf mesh index r i x a = cond (ltb (length index) (leftOrFirst x + x .count)) (Refuse 9 i) (scan mesh index r (x .count) (leftOrFirst x) a)
 
--- For an internal node: a child number beyond the nodes (9); 11
+-- Rule W5: both children must be nodes (9), and there must be room for them (11)
 unfoldable pub openInternal : ℕ → ℕ → Node → ℕ → Turn
 openInternal nodes i x besides =
     cond (leb nodes (leftOf i x) || leb nodes (rightOf i x)) (Refuse 9 i)
@@ -77,43 +78,43 @@ opened s r i x besides a =
     cond (eqb (x .kind) 1) (openLeaf (s .mesh .triangles) (s .tree .index) r i x a)
     (openInternal (nodeCount (s .tree .links)) i x besides)
 
--- bad kind, unusable box, or internal with count not 0 (9); the box test: passes or drops it
+-- Rule W3: an unsound node refuses the walk (9), a box that is missed drops its node
 unfoldable pub judged : Lent → Ray → ℕ → Node → ℕ → Tally → Turn
 judged s r i x besides a = cond (sound x) (cond (passes r (x .bounds)) (opened s r i x besides a) Missed) (Refuse 9 i)
 
--- node i, taken from the pending ones, with so many pending besides; its box test is counted
+-- Rule W2: node i, taken from the pending ones, with so many pending besides; its box test is counted
 unfoldable pub visit : Lent → Ray → ℕ → ℕ → Tally → Turn
 visit s r i besides a = judged s r i (nodeOf (s .tree) i) besides a
 
 -- ---- the walk
--- A refused walk gives number and at, no hit, zero counts.
+-- Rule W8: a number and a place, and nothing else
 abbrev pub refused : ℕ → ℕ → Told
 refused k i = record { refusal = numbered k i; hit = Nothing; boxes = 0; triangles = 0 }
 
--- the hit, made from its t and its triangle's number
+-- Rule W6: the hit, made from its t and its triangle's number
 unfoldable pub hitOf : Mesh → Ray → Nearest → Found
 hitOf m r Unmet = Nothing
 hitOf m r (Met t k) = At (hitAt r (triangleAt (m .triangles) k) k t)
 
--- a hit with its numbers and counts, a miss with counts
+-- Rule W6: when no node is pending any more
 unfoldable pub over : Mesh → Ray → Tally → Told
 over m r a = record { refusal = none; hit = hitOf m r (a .nearest); boxes = a .boxes; triangles = a .triangles }
 
--- An internal node puts right, then left on the pending list. (The last pending node stands first.)
+-- Rule W5: the left child comes next, the right one after all that is below it. (The last pending node stands first.)
 abbrev pub onward : Turn → List ℕ → Tally → (List ℕ → Tally → Told) → Told
 onward (Refuse k i) rest a go = refused k i
 onward Missed rest a go = go rest a
 onward (Down b) rest a go = go rest b
 onward (Open left right) rest a go = go (left ∷ right ∷ rest) a
 
--- Each step takes the last pending node and counts one box test. The number is how many are left: a box test beyond the number of nodes is refused (12).
+-- Rules W2 and W7: a node a step, until none is pending. The number is how many box tests are left; a node that is taken when there are none refuses the walk (12)
 unfoldable pub run : Lent → Ray → ℕ → List ℕ → Tally → Told
 run s r zero [] a = over (s .mesh) r a
 run s r zero (i ∷ rest) a = refused 12 i
 run s r (suc left) [] a = over (s .mesh) r a
 run s r (suc left) (i ∷ rest) a = onward (visit s r i (length rest) (boxed a)) rest (boxed a) (run s r left)
 
--- Walk order: 1, 2, 7, 8, then in the order of steps.
+-- Rule W1, after what can be told before any step: 1, 2, 7 and 8, the first of these that holds
 unfoldable pub walk : Lent → Ray → Told
 walk s r =
     unless

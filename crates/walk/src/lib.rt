@@ -1,6 +1,6 @@
 // The walk of one ray through one mesh: a port of `intersect_blas` of scene.rs, with the counts of the inner loop of cost.rs.
-// Left out, as document 01 says: the instances, their transforms and the top level. Added: every walk ends with a hit, a miss or a numbered
-// refusal, on any lists; the Rust panics on the 65th pending node and can run for ever on a looping tree.
+// Left out: the instances, their transforms and the top level. Added: every walk ends with a hit, a miss or a numbered refusal, on any lists,
+// where the Rust panics (a 65th node pending) or never comes back (a tree that loops).
 mod tally; // tally.rt: the counts and the hit so far
 mod pending; // pending.rt: the pending node numbers
 mod turn; // turn.rt: how a step ends
@@ -23,7 +23,7 @@ ghost use Rattle.lent.specs.Limits.{most-nodes};
 ghost use Rattle.walk.specs.Answer.{told};
 ghost use Rattle.walk.specs.Walk.{over, start, run, walk};
 
-// The walk's answer: a hit with its numbers and counts, a miss with counts, or a refusal, with document 01's number and `at`.
+// The walk's answer (rule W8): what was hit and both counts, the counts alone, or a refusal's number and `at`.
 pub enum Answer {
     Struck {
         hit: Hit,
@@ -113,9 +113,9 @@ fn run(triangles: &[f64], index: &[u32], boxes: &[f64], links: &[u32], ray: Ray)
 }
 
 // The nearest hit of the ray among the triangles of the leaves that it reaches, from node 0 on through boxes that it passes, at an equal t the
-// one of the lowest number, or a miss, with the box tests and the triangle tests made; or a refusal: 1 triangles not a multiple of 12 long;
-// 2 more than 65,536 of them (at: how many); 7 the ray isn't admitted; 8 links empty, not a multiple of 3, over 131,071 nodes, or boxes not
-// twice as long; then by steps 12 a box test beyond the number of nodes (at: the node), 9 a bad node (the node), 10 an index entry of n or more
+// one of the lowest number, or a miss, with the box tests and the triangle tests made; or a refusal (rules W1 to W5): 1 triangles that are not in
+// twelves; 2 more than 65,536 of them (at: how many); 7 the ray isn't admitted; 8 no links, links not in threes, more than 131,071 nodes, or not six
+// numbers of box for each; then by steps 12 more box tests than nodes (at: the node), 9 a bad node (the node), 10 an index entry of n or more
 // (its place), 5 a triangle that isn't admitted (its number), 11 more than 64 pending (the node). It writes nothing.
 pub fn walk(triangles: &[f64], index: &[u32], boxes: &[f64], links: &[u32], ray: Ray) -> Answer
     ensures { λ r. ⌜ told r ≡ walk (lent (now (triangles .entry)) (now (index .entry)) (now (boxes .entry)) (now (links .entry))) ray ⌝ }

@@ -1,4 +1,4 @@
-// The pending node numbers and their count: one state, in and out by value in each step.
+// The pending node numbers with their count: one state, which each step takes by value and hands back.
 ghost use mathlib.Core.Path.{_≡_};
 ghost use mathlib.Core.List.{[], _∷_};
 ghost use Prim.Native.Nat.{_+_, _-_, _<_};

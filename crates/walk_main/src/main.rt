@@ -1,4 +1,4 @@
-// Walks hand-made lists, good and hostile, and prints each answer: a hit with its numbers by their bits and counts, a miss with counts, or a
+// Walks hand-made lists, good and hostile, and prints each answer: a hit with its numbers by their bits, or a miss, and both counts; or a
 // refusal with its number and place; and skies of rays, with every number of the answer room. What it prints is held to the file stdout beside it.
 use aabb::Ray;
 use aabb::Vec3;
@@ -278,7 +278,7 @@ fn nodes() {
     vacant(b"empty box, down", down(0.0, 0.0, 0.0));
 }
 
-// No triangles: one leaf, first 0, count 0, empty box.
+// The tree of no triangles (rule C3).
 fn vacant(label: &[u8], r: Ray) {
     let mesh = probe();
     let index = [0u32];

@@ -1,4 +1,4 @@
-//! Document 02, A6: normals worked out from corners.
+//! Rules F8, T6 and T7: normals worked out from corners.
 
 use crate::triangles::{admitted, cross, dot, minus, part, triangle, Triangle};
 use crate::{refuse, triangle_count, Refusal};

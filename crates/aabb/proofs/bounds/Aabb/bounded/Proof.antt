@@ -1,4 +1,4 @@
--- Each min at most its max, then the lowest min and the highest max against the limit, tell the same. Assumes nothing.
+-- No min above its max, then the lowest min and the highest max against the limit, tell the same. Assumes nothing.
 use borrow.Author.Needs.{needs}
 use borrow.Author.Tests.{not-true, not-false}
 use Rattle.aabb.proofs.Limits.{out-of-order, too-low, high-enough}
