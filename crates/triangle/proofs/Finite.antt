@@ -21,8 +21,8 @@ use Rattle.triangle.specs.declared.Hit.{Hit}
 use Rattle.triangle.specs.declared.Found.the-variants.{At}
 use Rattle.triangle.specs.declared.Distance.{Distance}
 use Rattle.triangle.specs.declared.Distance.the-variants.{To, None}
-use Rattle.triangle.specs.Mesh.{admittedTriangle}
-use Rattle.triangle.specs.Meeting.{edge1, edge2, pvec, det, invDet, tvec, qvec, uOf, vOf, tOf, judged, distance, hitAt, found, strike}
+use Rattle.triangle.specs.Mesh.{cornersOf, admittedTriangle}
+use Rattle.triangle.specs.Meeting.{edge1, edge2, pvec, det, invDet, tvec, qvec, uOf, vOf, tOf, judged, distanceTo, distance, hitAt, found, strike}
 
 -- ---- vectors: each component of magnitude at most 2 ^ k
 abbrev pub AllAtMost : ℕ → Vec3 → Type 0
@@ -64,12 +64,12 @@ module _ (a : Triangle) (A : T (admittedTriangle a)) where
   unfolding admittedTriangle
   vertices = (forty (a .v0) (search (and-l, and-r)), forty (a .v1) (search (and-l, and-r)), forty (a .v2) (search (and-l, and-r)))
 
-  pub edge1-most : AllAtMost 41 (edge1 a)
-  unfolding edge1
+  pub edge1-most : AllAtMost 41 (edge1 (cornersOf a))
+  unfolding edge1 cornersOf
   edge1-most = minus-most (a .v1) (a .v0) (vertices .1) (vertices .0)
 
-  pub edge2-most : AllAtMost 41 (edge2 a)
-  unfolding edge2
+  pub edge2-most : AllAtMost 41 (edge2 (cornersOf a))
+  unfolding edge2 cornersOf
   edge2-most = minus-most (a .v2) (a .v0) (vertices .2) (vertices .0)
 
 -- ---- the numbers of the test
@@ -84,65 +84,65 @@ module _ (r : Ray) (a : Triangle) (R : T (admittedRay r)) (A : T (admittedTriang
       let h : T (allWithin two (r .direction)) = search (and-l, and-r) in
       (rw two-is at (within-along two 0 (r .direction) h), rw two-is at (within-along two 1 (r .direction) h), rw two-is at (within-along two 2 (r .direction) h))
 
-  tvec-most : AllAtMost 41 (tvec r a)
-  unfolding tvec
+  tvec-most : AllAtMost 41 (tvec r (cornersOf a))
+  unfolding tvec cornersOf
   tvec-most = minus-most (r .origin) (a .v0) origin-most (vertices a A .0)
 
-  pvec-most : AllAtMost 43 (pvec r a)
+  pvec-most : AllAtMost 43 (pvec r (cornersOf a))
   unfolding pvec round
-  pvec-most = cross-most 1 41 42 43 refl refl (r .direction) (edge2 a) direction-most (edge2-most a A)
+  pvec-most = cross-most 1 41 42 43 refl refl (r .direction) (edge2 (cornersOf a)) direction-most (edge2-most a A)
 
-  qvec-most : AllAtMost 83 (qvec r a)
+  qvec-most : AllAtMost 83 (qvec r (cornersOf a))
   unfolding qvec round
-  qvec-most = cross-most 41 41 82 83 refl refl (tvec r a) (edge1 a) tvec-most (edge1-most a A)
+  qvec-most = cross-most 41 41 82 83 refl refl (tvec r (cornersOf a)) (edge1 (cornersOf a)) tvec-most (edge1-most a A)
 
-  det-most : AtMost 86 (det r a)
+  det-most : AtMost 86 (det r (cornersOf a))
   unfolding det round le
-  det-most = dot-most 41 43 84 85 refl refl 86 refl tt (edge1 a) (pvec r a) (edge1-most a A) pvec-most
+  det-most = dot-most 41 43 84 85 refl refl 86 refl tt (edge1 (cornersOf a)) (pvec r (cornersOf a)) (edge1-most a A) pvec-most
 
   -- where the ray is not parallel to the triangle
-  module _ (n : T (not (lt (magnitude (det r a)) ten-billionth))) where
+  module _ (n : T (not (lt (magnitude (det r (cornersOf a))) ten-billionth))) where
     trillionth-below : T (le trillionth ten-billionth)
     unfolding le ofBits
     trillionth-below = tt
 
-    inverse : AtMost 40 (invDet r a)
+    inverse : AtMost 40 (invDet r (cornersOf a))
     unfolding invDet
     inverse =
-        inverse-most (det r a) (power-finite (det r a) 86 det-most)
-        (le-trans trillionth ten-billionth (magnitude (det r a)) trillionth-below
-        (not-lt→le ten-billionth (magnitude (det r a)) (le→real-r trillionth ten-billionth trillionth-below) (le→real-l (magnitude (det r a)) (power 86) det-most) n))
+        inverse-most (det r (cornersOf a)) (power-finite (det r (cornersOf a)) 86 det-most)
+        (le-trans trillionth ten-billionth (magnitude (det r (cornersOf a))) trillionth-below
+        (not-lt→le ten-billionth (magnitude (det r (cornersOf a))) (le→real-r trillionth ten-billionth trillionth-below) (le→real-l (magnitude (det r (cornersOf a))) (power 86) det-most) n))
 
-    u-most : AtMost 126 (uOf r a)
+    u-most : AtMost 126 (uOf r (cornersOf a))
     unfolding uOf round le
-    u-most = mul-most 86 40 126 refl (dot (tvec r a) (pvec r a)) (invDet r a) (dot-most 41 43 84 85 refl refl 86 refl tt (tvec r a) (pvec r a) tvec-most pvec-most) inverse
+    u-most = mul-most 86 40 126 refl (dot (tvec r (cornersOf a)) (pvec r (cornersOf a))) (invDet r (cornersOf a)) (dot-most 41 43 84 85 refl refl 86 refl tt (tvec r (cornersOf a)) (pvec r (cornersOf a)) tvec-most pvec-most) inverse
 
-    v-most : AtMost 126 (vOf r a)
+    v-most : AtMost 126 (vOf r (cornersOf a))
     unfolding vOf round le
-    v-most = mul-most 86 40 126 refl (dot (r .direction) (qvec r a)) (invDet r a) (dot-most 1 83 84 85 refl refl 86 refl tt (r .direction) (qvec r a) direction-most qvec-most) inverse
+    v-most = mul-most 86 40 126 refl (dot (r .direction) (qvec r (cornersOf a))) (invDet r (cornersOf a)) (dot-most 1 83 84 85 refl refl 86 refl tt (r .direction) (qvec r (cornersOf a)) direction-most qvec-most) inverse
 
-    t-most : AtMost 166 (tOf r a)
+    t-most : AtMost 166 (tOf r (cornersOf a))
     unfolding tOf round le
-    t-most = mul-most 126 40 166 refl (dot (edge2 a) (qvec r a)) (invDet r a) (dot-most 41 83 124 125 refl refl 126 refl tt (edge2 a) (qvec r a) (edge2-most a A) qvec-most) inverse
+    t-most = mul-most 126 40 166 refl (dot (edge2 (cornersOf a)) (qvec r (cornersOf a))) (invDet r (cornersOf a)) (dot-most 41 83 124 125 refl refl 126 refl tt (edge2 (cornersOf a)) (qvec r (cornersOf a)) (edge2-most a A) qvec-most) inverse
 
     pub record Finite : Type 0 where
-      pub det-is : T (finite (det r a))
-      pub inverse-is : T (finite (invDet r a))
-      pub u-is : T (finite (uOf r a))
-      pub v-is : T (finite (vOf r a))
-      pub sum-is : T (finite (add binary64 (uOf r a) (vOf r a)))
-      pub t-is : T (finite (tOf r a))
+      pub det-is : T (finite (det r (cornersOf a)))
+      pub inverse-is : T (finite (invDet r (cornersOf a)))
+      pub u-is : T (finite (uOf r (cornersOf a)))
+      pub v-is : T (finite (vOf r (cornersOf a)))
+      pub sum-is : T (finite (add binary64 (uOf r (cornersOf a)) (vOf r (cornersOf a))))
+      pub t-is : T (finite (tOf r (cornersOf a)))
 
     -- the numbers of a triangle test on admitted data are finite
     pub test-finite : Finite
     unfolding round
     test-finite = record {
-      det-is = power-finite (det r a) 86 det-most;
-      inverse-is = power-finite (invDet r a) 40 inverse;
-      u-is = power-finite (uOf r a) 126 u-most;
-      v-is = power-finite (vOf r a) 126 v-most;
-      sum-is = power-finite (add binary64 (uOf r a) (vOf r a)) 127 (add-most 126 127 refl (uOf r a) (vOf r a) u-most v-most);
-      t-is = power-finite (tOf r a) 166 t-most;
+      det-is = power-finite (det r (cornersOf a)) 86 det-most;
+      inverse-is = power-finite (invDet r (cornersOf a)) 40 inverse;
+      u-is = power-finite (uOf r (cornersOf a)) 126 u-most;
+      v-is = power-finite (vOf r (cornersOf a)) 126 v-most;
+      sum-is = power-finite (add binary64 (uOf r (cornersOf a)) (vOf r (cornersOf a))) 127 (add-most 126 127 refl (uOf r (cornersOf a)) (vOf r (cornersOf a)) u-most v-most);
+      t-is = power-finite (tOf r (cornersOf a)) 166 t-most;
     }
 
   -- ---- so the distance of a hit is finite
@@ -158,8 +158,8 @@ module _ (r : Ray) (a : Triangle) (R : T (admittedRay r)) (A : T (admittedTriang
       go false false false false f e = let i : t ≡ s = cc in rw i at (f tt)
 
   pub distance-finite : (s : Float) → distance r a ≡ To s → T (finite s)
-  unfolding distance
-  distance-finite s e = judged-finite (det r a) (uOf r a) (vOf r a) (tOf r a) s (λ n. test-finite n .t-is) e
+  unfolding distance distanceTo
+  distance-finite s e = judged-finite (det r (cornersOf a)) (uOf r (cornersOf a)) (vOf r (cornersOf a)) (tOf r (cornersOf a)) s (λ n. test-finite n .t-is) e
 
   found-finite : (k : ℕ) (d : Distance) (h : Hit) → ((s : Float) → d ≡ To s → T (finite s)) → found r a k d ≡ At h → T (finite (h .t))
   unfolding found hitAt

@@ -23,8 +23,8 @@ use Rattle.triangle.specs.declared.Crossing.{Crossing}
 use Rattle.triangle.specs.declared.Hit.{Hit}
 use Rattle.triangle.specs.declared.Distance.{Distance}
 use Rattle.triangle.specs.declared.Distance.the-variants.{To, None}
-use Rattle.triangle.specs.Mesh.{triangleAt, centroidOf, admittedTriangle}
-use Rattle.triangle.specs.Meeting.{det, uOf, vOf, tOf, judged, distance, faces, hitAt}
+use Rattle.triangle.specs.Mesh.{triangleAt, cornersOf, centroidOf, admittedTriangle}
+use Rattle.triangle.specs.Meeting.{crossingOf, judged, distanceTo, faces, hitAt}
 
 module _ (d m u v t : Float) (q : m ≡ magnitude d) where
   pub none-det : lt m ten-billionth ≡ true → None ≡ judged d u v t
@@ -123,26 +123,14 @@ unfolding triangleAt
 triangle-starts l i at a b c n p q r s t = cc (vector-start l (i * 12), vector-from l (i * 12) 3, vector-from l (i * 12) 6, vector-from l (i * 12) 9)
 
 -- ---- the vertices alone
-abbrev pub SameCorners : Corners → Triangle → Type 0
-SameCorners c a = (c .v0 ≡ a .v0) × (c .v1 ≡ a .v1) × (c .v2 ≡ a .v2)
-
-pub centroid-corners : (a : Triangle) (c : Corners) (r : Vec3) → SameCorners c a → r ≡ divided (plus (plus (c .v0) (c .v1)) (c .v2)) three → r ≡ centroidOf a
-unfolding centroidOf
-centroid-corners a c r p e = cc (p .0, p .1, p .2)
+pub centroid-corners : (a : Triangle) (c : Corners) (r : Vec3) → c ≡ cornersOf a → r ≡ divided (plus (plus (c .v0) (c .v1)) (c .v2)) three → r ≡ centroidOf a
+unfolding centroidOf cornersOf
+centroid-corners a c r p e = e ∙ ap (λ (c : Corners). divided (plus (plus (c .v0) (c .v1)) (c .v2)) three) p
 
 -- the numbers of the test, judged
-abbrev pub Crossed : Ray → Triangle → Crossing → Type 0
-Crossed r a x = (x .det ≡ det r a) × (x .u ≡ uOf r a) × (x .v ≡ vOf r a) × (x .t ≡ tOf r a)
-
-pub distance-crossed : (r : Ray) (a : Triangle) (x : Crossing) (d : Distance) → Crossed r a x → d ≡ judged (x .det) (x .u) (x .v) (x .t) → d ≡ distance r a
-unfolding distance
-distance-crossed r a x d p e = cc (p .0, p .1, p .2, p .3, e)
-
-pub distance-corners : (r : Ray) (a : Triangle) (c : Corners) (d : Distance) → SameCorners c a → ((normal : Vec3) → d ≡ distance r (triangle (c .v0) (c .v1) (c .v2) normal)) → d ≡ distance r a
-distance-corners r a c d p e = e (a .normal) ∙ ap (distance r) (whole (c .v0) (c .v1) (c .v2) (p .0) (p .1) (p .2))
-  where
-    whole : (v0 v1 v2 : Vec3) → v0 ≡ a .v0 → v1 ≡ a .v1 → v2 ≡ a .v2 → triangle v0 v1 v2 (a .normal) ≡ a
-    whole v0 v1 v2 p q s = rw (p, q, s)
+pub distance-crossed : (r : Ray) (c : Corners) (x : Crossing) (d : Distance) → x ≡ crossingOf r c → d ≡ judged (x .det) (x .u) (x .v) (x .t) → d ≡ distanceTo r c
+unfolding distanceTo crossingOf
+distance-crossed r c x d p e = e ∙ ap (λ (x : Crossing). judged (x .det) (x .u) (x .v) (x .t)) p
 
 -- ---- beyond the mesh's end the last number of the normal is a NaN, which no limit admits
 and-false : (a b : Bool) → false ≡ b → false ≡ (a && b)

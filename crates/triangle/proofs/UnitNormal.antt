@@ -19,7 +19,7 @@ use Rattle.float.proofs.Turned.{add-comm}
 use Rattle.aabb.specs.declared.vector.Vec3.{Vec3}
 use Rattle.aabb.specs.Vector.{vec, divided, dot, cross, within, allWithin}
 use Rattle.triangle.specs.declared.Triangle.{Triangle}
-use Rattle.triangle.specs.Mesh.{admittedTriangle}
+use Rattle.triangle.specs.Mesh.{cornersOf, admittedTriangle}
 use Rattle.triangle.specs.Meeting.{edge1, edge2}
 use Rattle.triangle.specs.Normal.{direction, normalOf, newTriangle}
 use Rattle.triangle.proofs.Finite.{AllAtMost, edge1-most, edge2-most, cross-most, dot-most}
@@ -108,8 +108,8 @@ module _ (a : Vec3) (A : AllAtMost 83 a) where
 -- ---- the triangle with these corners
 module _ (a : Triangle) (A : T (admittedTriangle a)) where
   normal-within : T (allWithin two (normalOf (a .v0) (a .v1) (a .v2)))
-  unfolding normalOf edge1 edge2 round
-  normal-within = direction-within (cross (edge1 a) (edge2 a)) (cross-most 41 41 82 83 refl refl (edge1 a) (edge2 a) (edge1-most a A) (edge2-most a A))
+  unfolding normalOf edge1 edge2 cornersOf round
+  normal-within = direction-within (cross (edge1 (cornersOf a)) (edge2 (cornersOf a))) (cross-most 41 41 82 83 refl refl (edge1 (cornersOf a)) (edge2 (cornersOf a)) (edge1-most a A) (edge2-most a A))
 
   pub new-admitted : T (admittedTriangle (newTriangle (a .v0) (a .v1) (a .v2)))
   unfolding newTriangle admittedTriangle

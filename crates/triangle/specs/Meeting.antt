@@ -8,43 +8,49 @@ use Rattle.aabb.specs.declared.vector.Vec3.{Vec3}
 use Rattle.aabb.specs.declared.vector.Ray.{Ray}
 use Rattle.aabb.specs.Vector.{minus, negated, dot, cross, pointAt}
 use Rattle.triangle.specs.declared.Triangle.{Triangle}
+use Rattle.triangle.specs.declared.Corners.{Corners}
+use Rattle.triangle.specs.declared.Crossing.{Crossing}
 use Rattle.triangle.specs.declared.Hit.{Hit}
 use Rattle.triangle.specs.declared.Found.{Found}
 use Rattle.triangle.specs.declared.Found.the-variants.{At, Nothing}
 use Rattle.triangle.specs.declared.Distance.{Distance}
 use Rattle.triangle.specs.declared.Distance.the-variants.{To, None}
+use Rattle.triangle.specs.Mesh.{cornersOf}
 
 -- ---- the numbers of the test, by the file's names
 -- Rule T3: from the edges on to t
-unfoldable pub edge1 : Triangle → Vec3
-edge1 a = minus (a .v1) (a .v0)
+unfoldable pub edge1 : Corners → Vec3
+edge1 c = minus (c .v1) (c .v0)
 
-unfoldable pub edge2 : Triangle → Vec3
-edge2 a = minus (a .v2) (a .v0)
+unfoldable pub edge2 : Corners → Vec3
+edge2 c = minus (c .v2) (c .v0)
 
-unfoldable pub pvec : Ray → Triangle → Vec3
-pvec r a = cross (r .direction) (edge2 a)
+unfoldable pub pvec : Ray → Corners → Vec3
+pvec r c = cross (r .direction) (edge2 c)
 
-unfoldable pub det : Ray → Triangle → Float
-det r a = dot (edge1 a) (pvec r a)
+unfoldable pub det : Ray → Corners → Float
+det r c = dot (edge1 c) (pvec r c)
 
-unfoldable pub invDet : Ray → Triangle → Float
-invDet r a = div binary64 one (det r a)
+unfoldable pub invDet : Ray → Corners → Float
+invDet r c = div binary64 one (det r c)
 
-unfoldable pub tvec : Ray → Triangle → Vec3
-tvec r a = minus (r .origin) (a .v0)
+unfoldable pub tvec : Ray → Corners → Vec3
+tvec r c = minus (r .origin) (c .v0)
 
-unfoldable pub qvec : Ray → Triangle → Vec3
-qvec r a = cross (tvec r a) (edge1 a)
+unfoldable pub qvec : Ray → Corners → Vec3
+qvec r c = cross (tvec r c) (edge1 c)
 
-unfoldable pub uOf : Ray → Triangle → Float
-uOf r a = mul binary64 (dot (tvec r a) (pvec r a)) (invDet r a)
+unfoldable pub uOf : Ray → Corners → Float
+uOf r c = mul binary64 (dot (tvec r c) (pvec r c)) (invDet r c)
 
-unfoldable pub vOf : Ray → Triangle → Float
-vOf r a = mul binary64 (dot (r .direction) (qvec r a)) (invDet r a)
+unfoldable pub vOf : Ray → Corners → Float
+vOf r c = mul binary64 (dot (r .direction) (qvec r c)) (invDet r c)
 
-unfoldable pub tOf : Ray → Triangle → Float
-tOf r a = mul binary64 (dot (edge2 a) (qvec r a)) (invDet r a)
+unfoldable pub tOf : Ray → Corners → Float
+tOf r c = mul binary64 (dot (edge2 c) (qvec r c)) (invDet r c)
+
+unfoldable pub crossingOf : Ray → Corners → Crossing
+crossingOf r c = record { det = det r c; u = uOf r c; v = vOf r c; t = tOf r c }
 
 -- Rule T4: four tests in a row, and t where all are stood
 unfoldable pub judged : Float → Float → Float → Float → Distance
@@ -54,8 +60,12 @@ judged d u v t =
     (cond (lt v nought || lt one (add binary64 u v)) None
     (cond (le t millionth) None (To t))))
 
+-- whatever the normal
+unfoldable pub distanceTo : Ray → Corners → Distance
+distanceTo r c = judged (det r c) (uOf r c) (vOf r c) (tOf r c)
+
 unfoldable pub distance : Ray → Triangle → Distance
-distance r a = judged (det r a) (uOf r a) (vOf r a) (tOf r a)
+distance r a = distanceTo r (cornersOf a)
 
 -- Rule T5: the front is what the ray meets against the normal
 unfoldable pub faces : Ray → Triangle → Bool

@@ -10,12 +10,17 @@ use Rattle.aabb.specs.declared.bounds.Aabb.{Aabb}
 use Rattle.aabb.specs.Vector.{plus, divided, along, allWithin, vectorAt}
 use Rattle.aabb.specs.Bounds.{ofThree}
 use Rattle.triangle.specs.declared.Triangle.{Triangle}
+use Rattle.triangle.specs.declared.Corners.{Corners}
 use Rattle.triangle.specs.declared.Unadmitted.{Unadmitted}
 use Rattle.triangle.specs.declared.Unadmitted.the-variants.{At, Nothing}
 
 -- Rule D1: triangle i of a mesh, twelve numbers each
 unfoldable pub triangleAt : List Float → ℕ → Triangle
 triangleAt mesh i = record { v0 = vectorAt mesh (i * 12); v1 = vectorAt mesh (i * 12 + 3); v2 = vectorAt mesh (i * 12 + 6); normal = vectorAt mesh (i * 12 + 9) }
+
+-- its vertices
+unfoldable pub cornersOf : Triangle → Corners
+cornersOf a = record { v0 = a .v0; v1 = a .v1; v2 = a .v2 }
 
 -- Rule T1: the vertices' box
 unfoldable pub boundsOf : Triangle → Aabb

@@ -13,8 +13,8 @@ ghost use Prim.Native.Nat.{_+_, _≤_};
 ghost use lib.ListN.{length};
 ghost use Rattle.float.specs.Number.{three};
 ghost use Rattle.aabb.specs.Vector.{vectorAt, plus, divided};
-ghost use Rattle.triangle.specs.Mesh.{triangleAt, boundsOf, centroidOf, admittedTriangle, firstRefused};
-ghost use Rattle.triangle.specs.Meeting.{det, uOf, vOf, tOf, judged, distance, hitAt, strike};
+ghost use Rattle.triangle.specs.Mesh.{triangleAt, cornersOf, boundsOf, centroidOf, admittedTriangle, firstRefused};
+ghost use Rattle.triangle.specs.Meeting.{crossingOf, judged, distanceTo, distance, hitAt, strike};
 
 pub struct Triangle {
     pub v0: Vec3,
@@ -95,7 +95,7 @@ impl Triangle {
 
     // The three vertices.
     pub fn corners(self) -> Corners
-        ensures { λ r. ⌜ (r .v0 ≡ self .v0) × (r .v1 ≡ self .v1) × (r .v2 ≡ self .v2) ⌝ }
+        ensures { λ r. ⌜ r ≡ cornersOf self ⌝ }
     {
         let v0 = self.v0;
         let v1 = self.v1;
@@ -172,7 +172,7 @@ impl Triangle {
 impl Corners {
     // Of triangle i of a mesh; a NaN for each number beyond the mesh's end.
     pub fn read(mesh: &[f64], i: usize) -> Corners
-        ensures { λ r. ⌜ (r .v0 ≡ triangleAt (now (mesh .entry)) i .v0) × (r .v1 ≡ triangleAt (now (mesh .entry)) i .v1) × (r .v2 ≡ triangleAt (now (mesh .entry)) i .v2) ⌝ }
+        ensures { λ r. ⌜ r ≡ cornersOf (triangleAt (now (mesh .entry)) i) ⌝ }
     {
         if i < mesh.len() / 12 {
             let at = i * 12;
@@ -191,9 +191,9 @@ impl Corners {
         self.v0.plus(self.v1).plus(self.v2).divided(3.0)
     }
 
-    // The numbers of the test of a triangle with these vertices, step by step as the Rust works them out.
+    // The numbers of the test, step by step as the Rust works them out.
     pub fn crossing(self, ray: Ray) -> Crossing
-        ensures { λ r. ⌜ ((a : Triangle) → self .v0 ≡ a .v0 → self .v1 ≡ a .v1 → self .v2 ≡ a .v2 → (r .det ≡ det ray a) × (r .u ≡ uOf ray a) × (r .v ≡ vOf ray a) × (r .t ≡ tOf ray a)) ⌝ }
+        ensures { λ r. ⌜ r ≡ crossingOf ray self ⌝ }
     {
         let edge1 = self.v1.minus(self.v0);
         let edge2 = self.v2.minus(self.v0);
@@ -210,7 +210,7 @@ impl Corners {
 
     // How far along the ray the triangle is met, whatever its normal.
     pub fn distance(self, ray: Ray) -> Distance
-        ensures { λ r. ⌜ ((normal : Vec3) → r ≡ distance ray (record { v0 = self .v0; v1 = self .v1; v2 = self .v2; normal = normal })) ⌝ }
+        ensures { λ r. ⌜ r ≡ distanceTo ray self ⌝ }
     {
         self.crossing(ray).distance()
     }

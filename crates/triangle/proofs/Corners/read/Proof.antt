@@ -1,20 +1,16 @@
 -- Each vertex is the one at its place. Assumes nothing.
 use mathlib.Core.Path.{ap, _∙_}
 use borrow.Author.Needs.{needs}
-use Rattle.triangle.specs.declared.Triangle.{Triangle}
-use Rattle.triangle.specs.Mesh.{triangleAt}
+use Rattle.triangle.specs.Mesh.{triangleAt, cornersOf}
 use Rattle.triangle.proofs.Corners.read.Statement.{statement}
 use Rattle.triangle.proofs.Corners.read.Tie as tie
 
 returns : tie.Need-returns
-unfolding triangleAt
-returns c = (c .before .before .three .ensures, c .before .three2 .ensures, c .three3 .ensures)
+unfolding triangleAt cornersOf
+returns c = rw (c .before .before .three .ensures, c .before .three2 .ensures, c .three3 .ensures)
 
 returns-2 : tie.Need-returns-2
-returns-2 c =
-    let e = c .before .read .ensures in
-    let s = c .corners .ensures in
-    (s .0 ∙ ap (λ (a : Triangle). a .v0) e, s .1 ∙ ap (λ (a : Triangle). a .v1) e, s .2 ∙ ap (λ (a : Triangle). a .v2) e)
+returns-2 c = c .corners .ensures ∙ ap cornersOf (c .before .read .ensures)
 
 pub read-spec : {M : Type 1} → statement M
 read-spec =

@@ -1,6 +1,7 @@
 -- By what the vertices give. Assumes nothing.
+use mathlib.Core.Path.{_∙_, ap}
 use borrow.Author.Needs.{needs}
-use Rattle.triangle.proofs.Steps.{distance-corners}
+use Rattle.triangle.specs.Meeting.{distanceTo, distance}
 use Rattle.triangle.proofs.Triangle.distance.Statement.{statement}
 use Rattle.triangle.proofs.Triangle.distance.Tie as tie
 
@@ -11,7 +12,8 @@ distance-requires : tie.Need-distance-requires
 distance-requires c κs = search needs
 
 returns : tie.Need-returns
-returns c = distance-corners _ _ _ _ (c .before .corners .ensures) (c .distance .ensures)
+unfolding distance
+returns c = c .distance .ensures ∙ ap (distanceTo _) (c .before .corners .ensures)
 
 pub distance-spec : {M : Type 1} → statement M
 distance-spec = tie.close (tie.spec corners-requires distance-requires returns)

@@ -2,6 +2,9 @@
 use mathlib.Core.Path.{_∙_, ap}
 use Prim.Native.Nat.{_+_, _*_}
 use borrow.Author.Needs.{needs}
+use Rattle.triangle.specs.declared.Corners.{Corners}
+use Rattle.triangle.specs.Mesh.{cornersOf}
+use Rattle.triangle.specs.Normal.{normalOf}
 use Rattle.triangle.specs.Refilled.{put, filled}
 use Rattle.triangle.proofs.normals.fill_one.Statement.{statement}
 use Rattle.triangle.proofs.normals.fill_one.Tie as tie
@@ -25,8 +28,11 @@ same-length : tie.Need-same-length
 same-length c = search needs
 
 returns : tie.Need-returns
-unfolding filled
-returns c = c .before .before .put .ensures ∙ ap (put (c .before .before .before .before .before .before .before .before .args .mesh .now) (c .before .before .before .before .before .before .before .before .args .i * 12 + 9)) cc
+unfolding filled cornersOf
+returns c =
+    let s = c .before .before .before .before .before .before .before .before .args in
+    let n = c .before .before .before .before in
+    c .before .before .put .ensures ∙ ap (put (s .mesh .now) (s .i * 12 + 9)) (n .normal-of .ensures ∙ ap (λ (t : Corners). normalOf (t .v0) (t .v1) (t .v2)) (n .before .read .ensures))
 
 pub fill-one-spec : {M : Type 1} → statement M
 fill-one-spec =
