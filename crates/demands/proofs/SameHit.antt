@@ -25,11 +25,11 @@ use Rattle.walk.specs.Walk.{walk}
 use Rattle.tree.specs.Tree.{Tree, leaf, internal}
 use Rattle.tree.specs.Holds.{Holds}
 use Rattle.tree.specs.Accepted.{Walkable}
-use Rattle.tree.specs.Leaves.{rangeOf}
 use Rattle.demands.specs.Reached.{reached}
 use Rattle.lent.specs.Members.{Every, Some}
 use Rattle.demands.specs.NearestHit.{Admitted, finds, Ahead, NearestAt, NothingAt}
-use Rattle.tree.specs.Leaves.{numbers, SameNumbers, Leaf, leavesOf, SameLeaf, SameLeaves, listsWith, withIndex, SameWithin, Reordered}
+use Rattle.tree.specs.Leaves.{rangeOf, numbers, Leaf, leavesOf}
+use Rattle.demands.specs.SameLeaves.{SameNumbers, SameLeaf, SameLeaves, listsWith, withIndex, SameWithin, Reordered}
 use Rattle.lent.specs.Members.{Member}
 use Rattle.demands.proofs.NearestHit.{Finite, hitAmong, nearest-at, nothing-at, nowhere, all-finite, reached-admitted, walk-hit}
 

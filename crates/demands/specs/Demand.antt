@@ -15,7 +15,8 @@ use Rattle.walk.specs.Walk.{walk}
 use Rattle.tree.specs.Tree.{Tree, size, leaves}
 use Rattle.tree.specs.Accepted.{Walkable, Accepted}
 use Rattle.demands.specs.Reached.{entered, reached}
-use Rattle.tree.specs.Leaves.{leavesOf, SameLeaves, withIndex, Reordered}
+use Rattle.tree.specs.Leaves.{leavesOf}
+use Rattle.demands.specs.SameLeaves.{SameLeaves, withIndex, Reordered}
 use Rattle.lent.specs.Members.{Every}
 use Rattle.demands.specs.NearestHit.{NearestAt, NothingAt}
 

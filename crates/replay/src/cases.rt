@@ -1,9 +1,10 @@
-// The four kinds of cases: 1 a build, 2 a walk, 3 a slab test, 4 a triangle test. Before a call every place of index and links holds a5a5a5a5, and
-// every place of boxes, times and numbers -7.5.
+// The five kinds of cases: 1 a build, 2 a walk, 3 a slab test, 4 a triangle test, 5 a sky of rays. What the lent rooms hold before a call is that of
+// room.rt, but for a sky, where the file has it.
 use crate::compare;
 use crate::compare::Check;
 use crate::input;
 use crate::input::Word;
+use crate::room;
 use crate::score::Score;
 ghost use mathlib.Core.Path.{_≡_};
 
@@ -13,7 +14,7 @@ pub fn next(fd: i32, score: Score) -> Score {
         return score.with(Check::Cut);
     };
     match kind {
-        1 | 2 => lists(fd, kind, score),
+        1 | 2 | 5 => lists(fd, kind, score),
         3 => score.with(slab(fd)),
         4 => score.with(triangle(fd)),
         _ => score.with(Check::Unknown),
@@ -29,7 +30,8 @@ fn slab(fd: i32) -> Check {
     if !input::fill_numbers(fd, &mut ray) {
         return Check::Cut;
     }
-    let mut times = [-7.5; 2];
+    let mut times = [0.0; 2];
+    room::numbers(&mut times);
     let answer = pigeonmast::pigeonmast_slab(&bounds, &ray, &mut times);
     compare::same_word(fd, answer).and(compare::same_times(fd, &times))
 }
@@ -43,12 +45,13 @@ fn triangle(fd: i32) -> Check {
     if !input::fill_numbers(fd, &mut ray) {
         return Check::Cut;
     }
-    let mut numbers = [-7.5; 7];
+    let mut numbers = [0.0; 7];
+    room::numbers(&mut numbers);
     let answer = pigeonmast::pigeonmast_triangle(&triangle, &ray, &mut numbers);
     compare::same_word(fd, answer).and(compare::same_hit(fd, &numbers))
 }
 
-// A build or a walk: the lengths of the four lists (triangles, index, boxes, links), then the case in as much room.
+// A build, a walk or a sky: the lengths of the four lists (triangles, index, boxes, links), then the case in as much room.
 fn lists(fd: i32, kind: u32, score: Score) -> Score {
     let mut lengths = [0; 4];
     if !input::fill_words(fd, &mut lengths) {
@@ -74,10 +77,10 @@ fn in_room(fd: i32, kind: u32, lengths: &[u32; 4], score: Score) -> Score {
     if 512 < l {
         return score.with(Check::Large);
     }
-    let mut triangles = [-7.5; 1024];
-    let mut index = [0xa5a5_a5a5u32; 128];
-    let mut boxes = [-7.5; 1024];
-    let mut links = [0xa5a5_a5a5u32; 512];
+    let mut triangles = [0.0; 1024];
+    let mut index = [0u32; 128];
+    let mut boxes = [0.0; 1024];
+    let mut links = [0u32; 512];
     in_lists(
         fd,
         kind,
@@ -89,7 +92,7 @@ fn in_room(fd: i32, kind: u32, lengths: &[u32; 4], score: Score) -> Score {
     )
 }
 
-// The triangles come first in both; in a walk the tree comes next.
+// The triangles come first in each; in a walk and a sky the tree comes next.
 fn in_lists(
     fd: i32,
     kind: u32,
@@ -107,6 +110,9 @@ fn in_lists(
     }
     if !fill_tree(fd, index, boxes, links) {
         return score.with(Check::Cut);
+    }
+    if kind == 5 {
+        return score.with(sky(fd, triangles, index, boxes, links));
     }
     walk(fd, triangles, index, boxes, links, score)
 }
@@ -128,6 +134,17 @@ fn size(x: u32) -> usize
 }
 
 fn build(
+    fd: i32,
+    triangles: &[f64],
+    index: &mut [u32],
+    boxes: &mut [f64],
+    links: &mut [u32],
+) -> Check {
+    room::lists(index, boxes, links);
+    build_answer(fd, triangles, index, boxes, links)
+}
+
+fn build_answer(
     fd: i32,
     triangles: &[f64],
     index: &mut [u32],
@@ -187,7 +204,8 @@ fn walk_ray(fd: i32, triangles: &[f64], index: &[u32], boxes: &[f64], links: &[u
     if !input::fill_numbers(fd, &mut ray) {
         return Check::Cut;
     }
-    let mut numbers = [-7.5; 7];
+    let mut numbers = [0.0; 7];
+    room::numbers(&mut numbers);
     let mut told = [0; 4];
     let answer = pigeonmast::pigeonmast_walk(
         triangles,
@@ -201,4 +219,101 @@ fn walk_ray(fd: i32, triangles: &[f64], index: &[u32], boxes: &[f64], links: &[u
     compare::same_word(fd, answer)
         .and(compare::same_hit(fd, &numbers))
         .and(compare::same_walk(fd, &told))
+}
+
+// A sky: the lengths of its rays and of its answer room (times, told), then the call in as much room.
+fn sky(fd: i32, triangles: &[f64], index: &[u32], boxes: &[f64], links: &[u32]) -> Check {
+    let mut lengths = [0; 3];
+    if !input::fill_words(fd, &mut lengths) {
+        return Check::Cut;
+    }
+    sky_room(fd, triangles, index, boxes, links, &lengths)
+}
+
+fn sky_room(
+    fd: i32,
+    triangles: &[f64],
+    index: &[u32],
+    boxes: &[f64],
+    links: &[u32],
+    lengths: &[u32; 3],
+) -> Check {
+    let r = size(lengths[0]);
+    let t = size(lengths[1]);
+    let o = size(lengths[2]);
+    if 128 < r {
+        return Check::Large;
+    }
+    if 32 < t {
+        return Check::Large;
+    }
+    if 128 < o {
+        return Check::Large;
+    }
+    let mut rays = [0.0; 128];
+    let mut times = [0.0; 32];
+    let mut told = [0u64; 128];
+    sky_call(
+        fd,
+        triangles,
+        index,
+        boxes,
+        links,
+        &mut rays[0..r],
+        &mut times[0..t],
+        &mut told[0..o],
+    )
+}
+
+fn sky_call(
+    fd: i32,
+    triangles: &[f64],
+    index: &[u32],
+    boxes: &[f64],
+    links: &[u32],
+    rays: &mut [f64],
+    times: &mut [f64],
+    told: &mut [u64],
+) -> Check {
+    if !fill_sky(fd, rays, times, told) {
+        return Check::Cut;
+    }
+    sky_answer(fd, triangles, index, boxes, links, rays, times, told)
+}
+
+fn fill_sky(fd: i32, rays: &mut [f64], times: &mut [f64], told: &mut [u64]) -> bool {
+    if !input::fill_numbers(fd, rays) {
+        return false;
+    }
+    if !input::fill_numbers(fd, times) {
+        return false;
+    }
+    input::fill_longs(fd, told)
+}
+
+fn sky_answer(
+    fd: i32,
+    triangles: &[f64],
+    index: &[u32],
+    boxes: &[f64],
+    links: &[u32],
+    rays: &[f64],
+    times: &mut [f64],
+    told: &mut [u64],
+) -> Check {
+    let mut at = [0; 1];
+    let answer = pigeonmast::pigeonmast_sky(
+        triangles,
+        index,
+        boxes,
+        links,
+        rays,
+        times,
+        told,
+        &mut at,
+    );
+    compare::same_word(fd, answer)
+        .and(compare::same_sky(fd, &at))
+        .and(compare::same_numbers(fd, times, true))
+        .and(compare::same_longs(fd, told))
 }

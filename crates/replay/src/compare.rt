@@ -82,6 +82,16 @@ pub fn same_numbers(fd: i32, got: &[f64], exact: bool) -> Check {
     so_far
 }
 
+pub fn same_longs(fd: i32, got: &[u64]) -> Check {
+    let mut so_far = Check::Same;
+    let mut i = 0;
+    while i < got.len() {
+        so_far = so_far.and(same_long(fd, got[i]));
+        i += 1;
+    }
+    so_far
+}
+
 // What the calls leave in the lent arrays.
 pub fn same_times(fd: i32, times: &[f64; 2]) -> Check {
     same_numbers(fd, times, false)
@@ -92,12 +102,13 @@ pub fn same_hit(fd: i32, numbers: &[f64; 7]) -> Check {
 }
 
 pub fn same_build(fd: i32, told: &[u64; 2]) -> Check {
-    same_long(fd, told[0]).and(same_long(fd, told[1]))
+    same_longs(fd, told)
 }
 
 pub fn same_walk(fd: i32, told: &[u64; 4]) -> Check {
-    same_long(fd, told[0])
-        .and(same_long(fd, told[1]))
-        .and(same_long(fd, told[2]))
-        .and(same_long(fd, told[3]))
+    same_longs(fd, told)
+}
+
+pub fn same_sky(fd: i32, at: &[u64; 1]) -> Check {
+    same_longs(fd, at)
 }

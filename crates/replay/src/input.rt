@@ -63,6 +63,19 @@ pub fn fill_words(fd: i32, list: &mut [u32]) -> bool {
     true
 }
 
+// Fills a list with longs; whether they were all there.
+pub fn fill_longs(fd: i32, list: &mut [u64]) -> bool {
+    let mut i = 0;
+    while i < list.len() {
+        let Long::Read(x) = read_long(fd) else {
+            return false;
+        };
+        list[i] = x;
+        i += 1;
+    }
+    true
+}
+
 // Fills a list with numbers; whether they were all there.
 pub fn fill_numbers(fd: i32, list: &mut [f64]) -> bool {
     let mut i = 0;

@@ -7,16 +7,38 @@ use crate::hostile::{self, Hostile};
 use crate::mesh_check::{self, Case, Tally};
 use crate::random::Random;
 use crate::rays::{self, Ray};
+use crate::sky_check::{self, Sky};
 use crate::{foreign_check, functions, meshes, node_room, world, Lists};
 use std::collections::BTreeMap;
 
 pub const SEED: u64 = 8_128;
 pub const MAGIC: &[u8; 8] = b"PIGEON01";
-/// What every place of a lent room holds before a call.
-pub const WORD: u32 = 0xa5a5_a5a5;
-pub const NUMBER: f64 = -7.5;
 /// No case is longer than these, so that the reader's arrays can be fixed.
 const MOST: [usize; 4] = [1_024, 128, 1_024, 512];
+/// Nor the rays and the answer room of a sky.
+const MOST_SKY: [usize; 3] = [128, 32, 128];
+
+/// What place k of a lent room holds before a call: a word or a number of its
+/// own, so that places exchanged show too.
+fn word(k: usize) -> u32 {
+    0xa5a5_a5a5 + k as u32
+}
+
+fn number(k: usize) -> f64 {
+    -7.5 - k as f64
+}
+
+pub fn words(n: usize) -> Vec<u32> {
+    (0..n).map(word).collect()
+}
+
+pub fn numbers(n: usize) -> Vec<f64> {
+    (0..n).map(number).collect()
+}
+
+pub fn record<const K: usize>() -> [f64; K] {
+    std::array::from_fn(number)
+}
 
 /// By call and answer.
 pub type Answers = BTreeMap<(&'static str, u32), u32>;
@@ -59,31 +81,42 @@ impl File {
         *self.answers.entry((call, number)).or_default() += 1;
     }
 
-    fn lengths(&mut self, mesh: &[f64], lists: &Lists) -> Result<(), String> {
-        let lengths = [
-            mesh.len(),
-            lists.index.len(),
-            lists.boxes.len(),
-            lists.links.len(),
-        ];
-        for (length, most) in lengths.into_iter().zip(MOST) {
+    fn lengths<const K: usize>(
+        &mut self,
+        lengths: [usize; K],
+        most: [usize; K],
+    ) -> Result<(), String> {
+        for (length, most) in lengths.into_iter().zip(most) {
             if length > most {
-                return Err(format!("a case has lists of {lengths:?}, over {MOST:?}"));
+                return Err(format!("a case has a list of {length}, over {most}"));
             }
             self.word(length as u32);
         }
         Ok(())
     }
 
+    /// The lengths of the mesh and of a tree's lists, and the mesh.
+    fn mesh(&mut self, mesh: &[f64], lists: &Lists) -> Result<(), String> {
+        let [index, links] = [lists.index.len(), lists.links.len()];
+        self.lengths([mesh.len(), index, lists.boxes.len(), links], MOST)?;
+        self.numbers(mesh);
+        Ok(())
+    }
+
+    fn lists(&mut self, lists: &Lists) {
+        self.words(&lists.index);
+        self.numbers(&lists.boxes);
+        self.words(&lists.links);
+    }
+
     fn build(&mut self, mesh: &[f64], [index, boxes, links]: [usize; 3]) -> Result<(), String> {
         let mut lists = Lists {
-            index: vec![WORD; index],
-            boxes: vec![NUMBER; boxes],
-            links: vec![WORD; links],
+            index: words(index),
+            boxes: numbers(boxes),
+            links: words(links),
         };
         self.start(1);
-        self.lengths(mesh, &lists)?;
-        self.numbers(mesh);
+        self.mesh(mesh, &lists)?;
         let mut told = [0; 2];
         let number = (READING.build)(
             mesh,
@@ -94,22 +127,17 @@ impl File {
         );
         self.answer("build", number);
         self.told(&told);
-        self.words(&lists.index);
-        self.numbers(&lists.boxes);
-        self.words(&lists.links);
+        self.lists(&lists);
         Ok(())
     }
 
     fn walk(&mut self, mesh: &[f64], lists: &Lists, rays: &[Ray]) -> Result<(), String> {
         self.start(2);
-        self.lengths(mesh, lists)?;
-        self.numbers(mesh);
-        self.words(&lists.index);
-        self.numbers(&lists.boxes);
-        self.words(&lists.links);
+        self.mesh(mesh, lists)?;
+        self.lists(lists);
         self.word(rays.len() as u32);
         for ray in rays {
-            let (mut numbers, mut told) = ([NUMBER; 7], [0; 4]);
+            let (mut numbers, mut told) = (record(), [0; 4]);
             let number = (READING.walk)(
                 mesh,
                 &lists.index,
@@ -124,6 +152,34 @@ impl File {
             self.numbers(&numbers);
             self.told(&told);
         }
+        Ok(())
+    }
+
+    fn sky(&mut self, sky: &Sky) -> Result<(), String> {
+        let Hostile { mesh, lists, .. } = &sky.case;
+        self.start(5);
+        self.mesh(mesh, lists)?;
+        self.lists(lists);
+        let lengths = [sky.rays.len(), sky.times.len(), sky.told.len()];
+        self.lengths(lengths, MOST_SKY)?;
+        self.numbers(&sky.rays);
+        self.numbers(&sky.times);
+        self.told(&sky.told);
+        let (mut times, mut told, mut at) = (sky.times.clone(), sky.told.clone(), [u64::MAX]);
+        let number = (READING.sky)(
+            mesh,
+            &lists.index,
+            &lists.boxes,
+            &lists.links,
+            &sky.rays,
+            &mut times,
+            &mut told,
+            &mut at,
+        );
+        self.answer("sky", number);
+        self.told(&at);
+        self.numbers(&times);
+        self.told(&told);
         Ok(())
     }
 }
@@ -203,7 +259,7 @@ fn wall_cases(file: &mut File) -> Result<(), String> {
 
 fn hostile_cases(file: &mut File, r: &mut Random) -> Result<(), String> {
     for (_, make) in hostile::KINDS {
-        let mut kept = Kept(BTreeMap::new(), 5);
+        let mut kept = Kept(BTreeMap::new(), 4);
         for _ in 0..2_000 {
             let case = make(r);
             let lists = &case.lists;
@@ -213,7 +269,7 @@ fn hostile_cases(file: &mut File, r: &mut Random) -> Result<(), String> {
                 &lists.boxes,
                 &lists.links,
                 &case.ray,
-                &mut [NUMBER; 7],
+                &mut record(),
                 &mut [0; 4],
             );
             if kept.wants(number) {
@@ -229,7 +285,7 @@ fn slab_cases(file: &mut File, r: &mut Random) -> Result<(), String> {
     for _ in 0..4_000 {
         let (bounds, ray) = functions::slab_case(r);
         functions::slab(&READING, &bounds, &ray)?;
-        let mut times = [NUMBER; 2];
+        let mut times = record();
         let number = (READING.slab)(&bounds, &ray, &mut times);
         if kept.wants(number) {
             file.start(3);
@@ -247,7 +303,7 @@ fn triangle_cases(file: &mut File, r: &mut Random) -> Result<(), String> {
     for _ in 0..4_000 {
         let (t, ray) = functions::triangle_case(r);
         functions::triangle(&READING, &t, &ray)?;
-        let mut numbers = [NUMBER; 7];
+        let mut numbers = record();
         let number = (READING.triangle)(&t, &ray, &mut numbers);
         if kept.wants(number) {
             file.start(4);
@@ -256,6 +312,36 @@ fn triangle_cases(file: &mut File, r: &mut Random) -> Result<(), String> {
             file.answer("triangle", number);
             file.numbers(&numbers);
         }
+    }
+    Ok(())
+}
+
+/// Skies in which the whole call is refused, or some place has an answer that is
+/// rare so far. Each ray is held to the published Rust as a single walk.
+fn sky_cases(file: &mut File, r: &mut Random) -> Result<(), String> {
+    let mut kept = Kept(BTreeMap::new(), 2);
+    for _ in 0..2_000 {
+        let sky = sky_check::sky(r);
+        let (number, outcomes) = sky_check::check(&READING, &sky)?;
+        let wanted = match (number, &outcomes[..]) {
+            (0, []) => kept.wants(u32::MAX),
+            (0, all) => all
+                .iter()
+                .fold(false, |any, x| kept.wants(*x as u32) || any),
+            _ => kept.wants(number),
+        };
+        if !wanted {
+            continue;
+        }
+        for (ray, outcome) in sky.rays.chunks_exact(6).zip(outcomes) {
+            // At the 65th pending (11) the Rust panics.
+            if outcome != 11 {
+                let ray = ray.try_into().unwrap();
+                let (mesh, lists) = (sky.case.mesh.clone(), sky.case.lists.clone());
+                foreign_check::check(&Hostile { mesh, lists, ray })?;
+            }
+        }
+        file.sky(&sky)?;
     }
     Ok(())
 }
@@ -289,6 +375,7 @@ pub fn write() -> Result<(Vec<u8>, Answers), String> {
         let mesh = meshes::party_walls(&mut r, size);
         mesh_cases(&mut file, &mut r, mesh)?;
     }
+    sky_cases(&mut file, &mut r)?;
     let mut bytes = MAGIC.to_vec();
     bytes.extend(file.cases.to_le_bytes());
     bytes.extend(&file.bytes);

@@ -2,7 +2,7 @@
 //! back with nothing but the sizes in it, and holds what the reading answers.
 
 use compare::calls::{all, equal, same, READING};
-use compare::replay::{write, MAGIC, NUMBER, WORD};
+use compare::replay::{numbers, record, words, write, MAGIC};
 use compare::Lists;
 
 const STORED: &[u8] = include_bytes!("../../../crates/replay/data/answers.bin");
@@ -32,15 +32,19 @@ impl Reader<'_> {
         self.numbers(K).try_into().unwrap()
     }
 
+    fn longs(&mut self, n: usize) -> Vec<u64> {
+        (0..n).map(|_| u64::from_le_bytes(self.bytes())).collect()
+    }
+
     fn told<const K: usize>(&mut self) -> [u64; K] {
-        std::array::from_fn(|_| u64::from_le_bytes(self.bytes()))
+        self.longs(K).try_into().unwrap()
     }
 }
 
 fn build(r: &mut Reader) {
     let [t, i, b, l] = [0; 4].map(|_: u32| r.word() as usize);
     let mesh = r.numbers(t);
-    let (mut index, mut boxes, mut links) = (vec![WORD; i], vec![NUMBER; b], vec![WORD; l]);
+    let (mut index, mut boxes, mut links) = (words(i), numbers(b), words(l));
     let mut told = [0; 2];
     let number = (READING.build)(&mesh, &mut index, &mut boxes, &mut links, &mut told);
     assert_eq!((number, told), (r.word(), r.told()));
@@ -49,7 +53,7 @@ fn build(r: &mut Reader) {
     assert_eq!(links, r.words(l));
 }
 
-fn walk(r: &mut Reader) -> u32 {
+fn tree(r: &mut Reader) -> (Vec<f64>, Lists) {
     let [t, i, b, l] = [0; 4].map(|_: u32| r.word() as usize);
     let mesh = r.numbers(t);
     let lists = Lists {
@@ -57,10 +61,35 @@ fn walk(r: &mut Reader) -> u32 {
         boxes: r.numbers(b),
         links: r.words(l),
     };
+    (mesh, lists)
+}
+
+fn sky(r: &mut Reader) {
+    let (mesh, lists) = tree(r);
+    let [y, t, o] = [0; 3].map(|_: u32| r.word() as usize);
+    let (rays, mut times) = (r.numbers(y), r.numbers(t));
+    let (mut told, mut at) = (r.longs(o), [u64::MAX]);
+    let number = (READING.sky)(
+        &mesh,
+        &lists.index,
+        &lists.boxes,
+        &lists.links,
+        &rays,
+        &mut times,
+        &mut told,
+        &mut at,
+    );
+    assert_eq!((number, at), (r.word(), r.told()));
+    assert!(all(&times, &r.numbers(t), same));
+    assert_eq!(told, r.longs(o));
+}
+
+fn walk(r: &mut Reader) -> u32 {
+    let (mesh, lists) = tree(r);
     let rays = r.word();
     for _ in 0..rays {
         let ray = r.record();
-        let (mut numbers, mut told) = ([NUMBER; 7], [0; 4]);
+        let (mut numbers, mut told) = (record(), [0; 4]);
         let answer = (READING.walk)(
             &mesh,
             &lists.index,
@@ -94,15 +123,16 @@ fn reads_from_front_to_back() {
             [1] => build(&mut r),
             [2] => compared += walk(&mut r) - 1,
             [3] => {
-                let (bounds, ray, mut times) = (r.record(), r.record(), [NUMBER; 2]);
+                let (bounds, ray, mut times) = (r.record(), r.record(), record());
                 assert_eq!((READING.slab)(&bounds, &ray, &mut times), r.word());
                 assert!(all(&times, &r.numbers(2), equal));
             }
             [4] => {
-                let (t, ray, mut numbers) = (r.record(), r.record(), [NUMBER; 7]);
+                let (t, ray, mut numbers) = (r.record(), r.record(), record());
                 assert_eq!((READING.triangle)(&t, &ray, &mut numbers), r.word());
                 assert!(all(&numbers, &r.numbers(7), same));
             }
+            [5] => sky(&mut r),
             [kind] => panic!("kind {kind}"),
         }
     }
@@ -110,6 +140,9 @@ fn reads_from_front_to_back() {
     assert_eq!(answers.values().sum::<u32>(), compared);
     for number in [0, 1, 5, 7, 8, 9, 10, 11, 12, 100] {
         assert!(answers.contains_key(&("walk", number)), "walk {number}");
+    }
+    for number in [0, 1, 13, 14] {
+        assert!(answers.contains_key(&("sky", number)), "sky {number}");
     }
     for number in [0, 1, 3, 4, 5, 6] {
         assert!(answers.contains_key(&("build", number)), "build {number}");
