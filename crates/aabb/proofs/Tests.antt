@@ -12,18 +12,11 @@ use lib.Ieee.{Float, nan, inf, fin, binary64, ofBits, add, mul, div, neg, lt, le
 use Rattle.float.specs.Number.{nought, two, infinity}
 use Rattle.float.specs.Pick.{magnitude}
 use Rattle.float.proofs.Order.{under→le, le-trans}
-use Rattle.float.proofs.Total.{and-go, and-no}
+use Rattle.float.proofs.Cases.{and-go, and-no}
 use Rattle.aabb.specs.declared.vector.Vec3.{Vec3}
 use Rattle.aabb.specs.declared.bounds.Aabb.{Aabb}
 use Rattle.aabb.specs.Vector.{vec, along, within, allEqual, numberAt, vectorAt}
 use Rattle.aabb.specs.Bounds.{extent, area, areaOf, isEmpty, box}
-
--- ---- two tests in a row
-pub or-yes : (a b : Bool) → a ≡ true → true ≡ (a || b)
-or-yes a b p = rw p
-
-pub or-next : (a b t : Bool) → a ≡ false → t ≡ b → t ≡ (a || b)
-or-next a b t p q = rw p q
 
 -- ---- vectors
 -- a magnitude is at most a limit where the number and its opposite are

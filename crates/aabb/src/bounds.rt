@@ -117,7 +117,7 @@ impl Aabb {
         if !self.min.at_most(self.max) {
             return false;
         }
-        let limit = 1099511627776.0;
+        let limit = float::TWO_TO_40;
         if !(-limit <= float::lower(float::lower(self.min.x, self.min.y), self.min.z)) {
             return false;
         }

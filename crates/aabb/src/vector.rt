@@ -264,7 +264,7 @@ impl Ray {
     pub fn admitted(self) -> bool
         ensures { λ r. ⌜ r ≡ admittedRay self ⌝ }
     {
-        if self.origin.within(1099511627776.0) {
+        if self.origin.within(float::TWO_TO_40) {
             return self.direction.within(2.0);
         }
         false

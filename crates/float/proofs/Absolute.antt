@@ -11,6 +11,7 @@ use lib.Pow.{pow-pos}
 use lib.Ieee.{Float, nan, inf, fin, up, down, neg, lt, eq, fits, binary64}
 use lib.Ieee.Fits.{up-pos}
 use borrow.Author.Tests.{eqb-true, eq-eqb, lt-ltb, le-ltb}
+use Rattle.float.proofs.Cases.{and-true}
 use Rattle.float.specs.Number.{nought}
 use Rattle.float.specs.Pick.{magnitude}
 use Rattle.float.proofs.Numbers.{nought-is}
@@ -21,10 +22,6 @@ pub is-zero : (s : Bool) (e : ℤ) → eq (fin s zero e) (fin false 0 (pos 0)) �
 unfolding eq
 is-zero true e = simp (zero-mul, eq-eqb 0 0 refl)
 is-zero false e = simp (zero-mul, eq-eqb 0 0 refl)
-
-pub and-true : (a b : Bool) → (a && b) ≡ true → a ≡ true
-and-true true b p = refl
-and-true false b p = p
 
 pub not-zero : {A : Type 0} (s : Bool) (m : ℕ) (e : ℤ) → eq (fin s (suc m) e) (fin false 0 (pos 0)) ≡ true → A
 unfolding eq

@@ -1,7 +1,7 @@
 -- What a test says, what the tests that it is made of say, and the cases that two numbers leave. Assumes nothing.
 use mathlib.Core.Path.{_≡_, refl, sym, subst}
 use mathlib.Core.Logic.{_⊎_, inl, inr}
-use mathlib.Core.Bool.{Bool, true, false, not, _||_, true≢false}
+use mathlib.Core.Bool.{Bool, true, false, not, _&&_, _||_, true≢false}
 use Prim.Native.Nat.{ℕ, _≤_, _<_}
 use native.Mathlib.Omega.{arith}
 use native.Mathlib.Decide.{ℕ-discrete, decLt}
@@ -26,6 +26,34 @@ or-r false b t = t
 pub or-split : (a b : Bool) → T (a || b) → T a ⊎ T b
 or-split true b t = inl tt
 or-split false b t = inr t
+
+-- ---- two tests in a row, as code makes them
+pub or-yes : (a b : Bool) → a ≡ true → true ≡ (a || b)
+or-yes a b p = rw p
+
+pub or-next : (a b t : Bool) → a ≡ false → t ≡ b → t ≡ (a || b)
+or-next a b t p q = rw p q
+
+pub and-go : (a b t : Bool) → a ≡ true → t ≡ b → t ≡ (a && b)
+and-go a b t p q = rw p q
+
+pub and-no : (a b : Bool) → a ≡ false → false ≡ (a && b)
+and-no a b p = rw p
+
+pub and-false : (a b : Bool) → false ≡ b → false ≡ (a && b)
+and-false true b p = p
+and-false false b p = refl
+
+-- ---- both
+pub and-both : (a b : Bool) → (a && b) ≡ true → (a ≡ true) × (b ≡ true)
+and-both true b p = (refl, p)
+and-both false b p = absurd (true≢false (sym p))
+
+pub and-true : (a b : Bool) → (a && b) ≡ true → a ≡ true
+and-true a b p = and-both a b p .0
+
+pub and-last : (a b : Bool) → (a && b) ≡ true → b ≡ true
+and-last a b p = and-both a b p .1
 
 -- ---- neither
 pub not-l : (a b : Bool) → T (not (a || b)) → T (not a)

@@ -13,11 +13,11 @@ use lib.Ieee.Bits.{is-true, is-false}
 use borrow.Author.Tests.{not-true, eqb-true, le-ltb}
 use Rattle.float.specs.Number.{real, nought, one}
 use Rattle.float.specs.Total.{lex, lessNumber, minusZero, lessZero, totalLess}
-use Rattle.float.proofs.Cases.{true-is, false-is}
+use Rattle.float.proofs.Cases.{and-last, and-true, false-is, true-is}
 use Rattle.float.proofs.Numbers.{nought-is, one-is}
 use Rattle.float.proofs.Order.{clash, lt→le, le→real-l, le→real-r, le→not-lt, not-lt→le, le-trans}
 use Rattle.float.proofs.Pick.{nan-test}
-use Rattle.float.proofs.Absolute.{and-true, is-zero, not-zero}
+use Rattle.float.proofs.Absolute.{is-zero, not-zero}
 
 -- ---- first by R, then by S
 pub lex-false : (r q s : Bool) → (r || (not q && s)) ≡ false → (r ≡ false) × (q ≡ false → s ≡ false)
@@ -177,10 +177,6 @@ total-level x y p r z =
     (λ e. level-zero x y (sym (zero-none x (not-true (eq x nought) z))))
 
 -- ---- of equal numbers neither is less, and where one isn't zero neither is the other
-and-last : (a b : Bool) → (a && b) ≡ true → b ≡ true
-and-last true b p = p
-and-last false b p = clash false p refl
-
 level-both : (s : Bool) (a : ℕ) (t : Bool) (b : ℕ) → level s a t b ≡ true → (below s a t b ≡ false) × (below t b s a ≡ false)
 level-both s a t b p = go s t (eqb-true a b (and-true (eqb a b) _ p)) (and-last (eqb a b) _ p)
   where
@@ -234,9 +230,3 @@ lex-no r q s p e = rw (p, e)
 
 pub lex-next : (r q s t : Bool) → r ≡ false → q ≡ false → t ≡ s → t ≡ (r || (not q && s))
 lex-next r q s t p e f = rw (p, e) f
-
-pub and-go : (a b t : Bool) → a ≡ true → t ≡ b → t ≡ (a && b)
-and-go a b t p q = rw p q
-
-pub and-no : (a b : Bool) → a ≡ false → false ≡ (a && b)
-and-no a b p = rw p

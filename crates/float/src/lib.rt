@@ -9,6 +9,9 @@ ghost use Rattle.float.specs.Number.{infinity};
 ghost use Rattle.float.specs.Pick.{magnitude, lesser, greater, lower, higher};
 ghost use Rattle.float.specs.Total.{totalLess, lessNumber, minusZero};
 
+// 2^40, the limit of vertices, of a ray's origin and of boxes.
+pub const TWO_TO_40: f64 = 1099511627776.0;
+
 // +inf, which no literal can be.
 pub fn infinity() -> f64
     ensures { λ r. ⌜ r ≡ infinity ⌝ }

@@ -7,6 +7,7 @@ use native.Mathlib.Omega.{arith}
 use borrow.Author.Tests.{le-leb, lt-leb, leb-true, eq-eqb, ne-eqb, eqb-true}
 use lib.Dec.{eqb, leb}
 use lib.ListN.{length}
+use Rattle.float.proofs.Cases.{and-both}
 use Rattle.report.specs.declared.input.Input.the-variants.{Good, Bad}
 use Rattle.report.specs.Little.{word}
 use Rattle.report.specs.Input.{most, countAt, wholeLength, fine, measuredBy, measured}
@@ -48,10 +49,6 @@ module _ (s : List ℕ) (n : ℕ) (p : n ≡ word s 0) where
     pub good : n ≤ most → m ≤ most → length s ≡ 4 + 96 * n + 4 + 48 * m → Good n m ≡ measured s
     unfolding measured measuredBy fine
     good h k e = rw (← p, ← q, le-leb n most h, le-leb m most k, eq-eqb (length s) (wholeLength n m) e)
-
-and-both : (a b : Bool) → (a && b) ≡ true → (a ≡ true) × (b ≡ true)
-and-both true b h = (refl, h)
-and-both false b h = absurd (true≢false (sym h))
 
 good-parts : (l n m : ℕ) → fine l n m ≡ true → (n ≤ most) × (m ≤ most) × (l ≡ wholeLength n m)
 unfolding fine

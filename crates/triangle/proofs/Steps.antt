@@ -10,7 +10,7 @@ use lib.Dec.{T}
 use lib.Ieee.{Float, nan, inf, fin, binary64, ofBits, add, sub, neg, lt, le}
 use Rattle.float.specs.Number.{real, nought, one, two, three, two-to-40, millionth, ten-billionth}
 use Rattle.float.specs.Pick.{magnitude}
-use Rattle.float.proofs.Cases.{false-is}
+use Rattle.float.proofs.Cases.{and-false, false-is}
 use Rattle.float.proofs.Order.{lt→le, le→real-l, not-lt→le}
 use Rattle.float.proofs.Monotone.{sub-turns}
 use Rattle.aabb.specs.declared.vector.Vec3.{Vec3}
@@ -133,10 +133,6 @@ unfolding distanceTo crossingOf
 distance-crossed r c x d p e = e ∙ ap (λ (x : Crossing). judged (x .det) (x .u) (x .v) (x .t)) p
 
 -- ---- beyond the mesh's end the last number of the normal is a NaN, which no limit admits
-and-false : (a b : Bool) → false ≡ b → false ≡ (a && b)
-and-false true b p = p
-and-false false b p = refl
-
 nan-without : (l : List Float) (k : ℕ) → length l ≤ k + 2 → false ≡ allWithin two (vectorAt l k)
 unfolding allWithin within vectorAt le
 nan-without l k h = and-false (within two (numberAt l k)) _ (and-false (within two (numberAt l (k + 1))) _ (rw (List·getD-eq-default l nan h)))

@@ -114,9 +114,9 @@ impl Triangle {
     pub fn admitted(self) -> bool
         ensures { λ r. ⌜ r ≡ admittedTriangle self ⌝ }
     {
-        if self.v0.within(1099511627776.0) {
-            if self.v1.within(1099511627776.0) {
-                if self.v2.within(1099511627776.0) {
+        if self.v0.within(float::TWO_TO_40) {
+            if self.v1.within(float::TWO_TO_40) {
+                if self.v2.within(float::TWO_TO_40) {
                     return self.normal.within(2.0);
                 }
                 return false;

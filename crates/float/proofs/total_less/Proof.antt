@@ -3,7 +3,8 @@ use mathlib.Core.Path.{sym, _∙_, ap}
 use mathlib.Core.Bool.{not}
 use borrow.Author.Needs.{needs}
 use Rattle.float.specs.Total.{lessNumber, lessZero, totalLess}
-use Rattle.float.proofs.Total.{lex-yes, lex-no, lex-next, and-go, and-no}
+use Rattle.float.proofs.Total.{lex-yes, lex-no, lex-next}
+use Rattle.float.proofs.Cases.{and-go, and-no}
 use Rattle.float.proofs.total_less.Statement.{statement}
 use Rattle.float.proofs.total_less.Tie as tie
 

@@ -1,6 +1,7 @@
 -- The tests are those of the definition, in its order. Assumes nothing.
 use mathlib.Core.Path.{sym}
-use Rattle.aabb.proofs.Tests.{or-yes, or-next, area-flat, area-full}
+use Rattle.aabb.proofs.Tests.{area-flat, area-full}
+use Rattle.float.proofs.Cases.{or-yes, or-next}
 use borrow.Author.Needs.{needs}
 use Rattle.aabb.proofs.bounds.Aabb.surface_area.Statement.{statement}
 use Rattle.aabb.proofs.bounds.Aabb.surface_area.Tie as tie

@@ -1,7 +1,7 @@
 -- The tests are those of the definition, in its order. Assumes nothing.
 use mathlib.Core.Path.{sym, _∙_}
 use Rattle.aabb.specs.Bounds.{usable}
-use Rattle.aabb.proofs.Tests.{or-yes, or-next}
+use Rattle.float.proofs.Cases.{or-yes, or-next}
 use borrow.Author.Needs.{needs}
 use Rattle.aabb.proofs.bounds.Aabb.usable.Statement.{statement}
 use Rattle.aabb.proofs.bounds.Aabb.usable.Tie as tie

@@ -1,6 +1,6 @@
 -- The tests are those of the definition, in its order. Assumes nothing.
 use mathlib.Core.Path.{sym, _∙_}
-use Rattle.float.proofs.Total.{and-go, and-no}
+use Rattle.float.proofs.Cases.{and-go, and-no}
 use Rattle.aabb.specs.Vector.{admittedRay}
 use borrow.Author.Needs.{needs}
 use Rattle.aabb.proofs.vector.Ray.admitted.Statement.{statement}

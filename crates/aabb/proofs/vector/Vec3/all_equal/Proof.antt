@@ -1,6 +1,6 @@
 -- The tests are those of the definition, in its order. Assumes nothing.
 use mathlib.Core.Path.{refl}
-use Rattle.float.proofs.Total.{and-go, and-no}
+use Rattle.float.proofs.Cases.{and-go, and-no}
 use Rattle.aabb.specs.Vector.{allEqual}
 use Rattle.aabb.proofs.vector.Vec3.all_equal.Statement.{statement}
 use Rattle.aabb.proofs.vector.Vec3.all_equal.Tie as tie

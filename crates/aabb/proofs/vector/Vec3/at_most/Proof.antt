@@ -1,6 +1,6 @@
 -- The tests are those of the definition, in its order. Assumes nothing.
 use mathlib.Core.Path.{refl}
-use Rattle.float.proofs.Total.{and-go, and-no}
+use Rattle.float.proofs.Cases.{and-go, and-no}
 use Rattle.aabb.specs.Vector.{allAtMost}
 use Rattle.aabb.proofs.vector.Vec3.at_most.Statement.{statement}
 use Rattle.aabb.proofs.vector.Vec3.at_most.Tie as tie

@@ -1,7 +1,7 @@
 -- The tests are those of the definition, in its order. Assumes nothing.
 use mathlib.Core.Path.{sym, _∙_}
 use borrow.Author.Needs.{needs}
-use Rattle.float.proofs.Total.{and-go, and-no}
+use Rattle.float.proofs.Cases.{and-go, and-no}
 use Rattle.aabb.specs.Vector.{allWithin}
 use Rattle.aabb.proofs.vector.Vec3.within.Statement.{statement}
 use Rattle.aabb.proofs.vector.Vec3.within.Tie as tie
