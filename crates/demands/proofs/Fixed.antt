@@ -1,76 +1,119 @@
--- Each public call's promise fixes what it answers and what all that is lent holds at the end: any two that it allows are equal. Assumes nothing.
+-- Each public call's promise fixes its answer and the final content of everything lent: any two that it allows for the same arguments are equal. Said of the promise itself,
+-- so that a weaker one would not do. Assumes nothing.
 use Prim.Native.Nat.{ℕ}
 use native.Mathlib.Omega.{arith}
-use mathlib.Core.Path.{_≡_, refl, sym, _∙_, ap}
+use mathlib.Core.Path.{_≡_, sym, _∙_, ap}
 use mathlib.Core.List.{List}
 use lib.Ieee.{Float}
-use Rattle.float.specs.Number.{nought}
-use Rattle.aabb.specs.declared.vector.Vec3.{Vec3}
-use Rattle.aabb.specs.declared.vector.Ray.{Ray}
-use Rattle.aabb.specs.Vector.{vec}
-use Rattle.triangle.specs.declared.Corners.{Corners}
-use Rattle.triangle.specs.declared.Triangle.{Triangle}
-use Rattle.triangle.specs.declared.Crossing.{Crossing}
-use Rattle.triangle.specs.declared.Distance.{Distance}
+use Rattle.lent.specs.Fixed.{Fixes, FixesAll}
+use Rattle.lent.proofs.Fixed.{fixed}
 use Rattle.triangle.specs.declared.normals.Refill.{Refill}
-use Rattle.triangle.specs.Refilled.{Outcome as Refilling, outcome as refilling}
-use Rattle.triangle.proofs.Steps.{triangle, Crossed}
+use Rattle.triangle.specs.Refilled.{Outcome as Refilling}
 use Rattle.builder.specs.declared.Built.{Built}
-use Rattle.builder.specs.Build.{Outcome, outcome}
+use Rattle.builder.specs.Build.{Outcome}
 use Rattle.walk.specs.declared.Answer.{Answer}
 use Rattle.walk.specs.declared.Answer.the-variants.{Struck, Missed, Refused}
 use Rattle.walk.specs.Answer.{Told, told}
 use Rattle.sky.specs.declared.Filled.{Filled}
-use Rattle.sky.specs.Sky.{Filling, filling}
+use Rattle.sky.specs.Sky.{Filling}
+use Rattle.float.proofs.infinity.Reads as float-infinity
+use Rattle.float.proofs.magnitude.Reads as float-magnitude
+use Rattle.float.proofs.lesser.Reads as float-lesser
+use Rattle.float.proofs.greater.Reads as float-greater
+use Rattle.float.proofs.lower.Reads as float-lower
+use Rattle.float.proofs.higher.Reads as float-higher
+use Rattle.float.proofs.minus_zero.Reads as float-minus-zero
+use Rattle.float.proofs.less_number.Reads as float-less-number
+use Rattle.float.proofs.total_less.Reads as float-total-less
+use Rattle.float.proofs.bits.Reads as float-bits
+use Rattle.float.proofs.from_bits.Reads as float-from-bits
+use Rattle.float.proofs.root.Reads as float-root
+use Rattle.aabb.proofs.vector.Vec3.plus.Reads as vec3-plus
+use Rattle.aabb.proofs.vector.Vec3.minus.Reads as vec3-minus
+use Rattle.aabb.proofs.vector.Vec3.negated.Reads as vec3-negated
+use Rattle.aabb.proofs.vector.Vec3.scaled.Reads as vec3-scaled
+use Rattle.aabb.proofs.vector.Vec3.divided.Reads as vec3-divided
+use Rattle.aabb.proofs.vector.Vec3.dot.Reads as vec3-dot
+use Rattle.aabb.proofs.vector.Vec3.cross.Reads as vec3-cross
+use Rattle.aabb.proofs.vector.Vec3.least.Reads as vec3-least
+use Rattle.aabb.proofs.vector.Vec3.greatest.Reads as vec3-greatest
+use Rattle.aabb.proofs.vector.Vec3.lowest.Reads as vec3-lowest
+use Rattle.aabb.proofs.vector.Vec3.highest.Reads as vec3-highest
+use Rattle.aabb.proofs.vector.Vec3.along.Reads as vec3-along
+use Rattle.aabb.proofs.vector.Vec3.within.Reads as vec3-within
+use Rattle.aabb.proofs.vector.Vec3.at_most.Reads as vec3-at-most
+use Rattle.aabb.proofs.vector.Vec3.all_equal.Reads as vec3-all-equal
+use Rattle.aabb.proofs.vector.Vec3.read.Reads as vec3-read
+use Rattle.aabb.proofs.vector.place.Reads as aabb-place
+use Rattle.aabb.proofs.vector.Ray.read.Reads as ray-read
+use Rattle.aabb.proofs.vector.Ray.at.Reads as ray-at
+use Rattle.aabb.proofs.vector.Ray.admitted.Reads as ray-admitted
+use Rattle.aabb.proofs.bounds.Aabb.empty.Reads as aabb-empty
+use Rattle.aabb.proofs.bounds.Aabb.from_points.Reads as aabb-from-points
+use Rattle.aabb.proofs.bounds.Aabb.grow.Reads as aabb-grow
+use Rattle.aabb.proofs.bounds.Aabb.union.Reads as aabb-union
+use Rattle.aabb.proofs.bounds.Aabb.widened.Reads as aabb-widened
+use Rattle.aabb.proofs.bounds.Aabb.joined.Reads as aabb-joined
+use Rattle.aabb.proofs.bounds.Aabb.center.Reads as aabb-center
+use Rattle.aabb.proofs.bounds.Aabb.extent.Reads as aabb-extent
+use Rattle.aabb.proofs.bounds.Aabb.surface_area.Reads as aabb-surface-area
+use Rattle.aabb.proofs.bounds.Aabb.bounded.Reads as aabb-bounded
+use Rattle.aabb.proofs.bounds.Aabb.is_empty.Reads as aabb-is-empty
+use Rattle.aabb.proofs.bounds.Aabb.usable.Reads as aabb-usable
+use Rattle.aabb.proofs.bounds.Aabb.read.Reads as aabb-read
+use Rattle.aabb.proofs.bounds.Aabb.intersect_ray.Reads as aabb-intersect-ray
+use Rattle.aabb.proofs.slab.Sight.of.Reads as sight-of
+use Rattle.aabb.proofs.slab.Aim.of.Reads as aim-of
+use Rattle.aabb.proofs.slab.Aim.through.Reads as aim-through
+use Rattle.triangle.proofs.Triangle.read.Reads as triangle-read
+use Rattle.triangle.proofs.Triangle.aabb.Reads as triangle-aabb
+use Rattle.triangle.proofs.Triangle.corners.Reads as triangle-corners
+use Rattle.triangle.proofs.Triangle.centroid.Reads as triangle-centroid
+use Rattle.triangle.proofs.Triangle.admitted.Reads as triangle-admitted
+use Rattle.triangle.proofs.Triangle.distance.Reads as triangle-distance
+use Rattle.triangle.proofs.Triangle.hit.Reads as triangle-hit
+use Rattle.triangle.proofs.Triangle.intersect.Reads as triangle-intersect
+use Rattle.triangle.proofs.Triangle.new.Reads as triangle-new
+use Rattle.triangle.proofs.Corners.read.Reads as corners-read
+use Rattle.triangle.proofs.Corners.centroid.Reads as corners-centroid
+use Rattle.triangle.proofs.Corners.crossing.Reads as corners-crossing
+use Rattle.triangle.proofs.Corners.distance.Reads as corners-distance
+use Rattle.triangle.proofs.Crossing.distance.Reads as crossing-distance
+use Rattle.triangle.proofs.admitted_at.Reads as triangle-admitted-at
+use Rattle.triangle.proofs.first_refused.Reads as triangle-first-refused
+use Rattle.tree.proofs.Node.read.Reads as node-read
+use Rattle.tree.proofs.Node.sound.Reads as node-sound
+use Rattle.tree.proofs.Node.left.Reads as node-left
+use Rattle.tree.proofs.Node.right.Reads as node-right
+use Rattle.tree.proofs.misfit.Reads as tree-misfit
+use Rattle.triangle.proofs.refill_normals.Reads as triangle-refill-normals
+use Rattle.builder.proofs.build.Reads as builder-build
+use Rattle.walk.proofs.walk.Reads as walk-walk
+use Rattle.sky.proofs.sky.Reads as sky-sky
 
--- Every public call of `float`, `aabb` and `triangle` but those of `Corners` and `refill_normals` promises `r ≡ d`, with d a definition of what it was given: two
--- answers r and r' that the promise allows are equal.
-pub fixed : {A : Type 0} {r r' d : A} → r ≡ d → r' ≡ d → r ≡ r'
-fixed p q = p ∙ sym q
+-- the calls of `float`
+pub float-fixed : Fixes float-infinity.Post × Fixes float-magnitude.Post × Fixes float-lesser.Post × Fixes float-greater.Post × Fixes float-lower.Post × Fixes float-higher.Post × Fixes float-minus-zero.Post × Fixes float-less-number.Post × Fixes float-total-less.Post × Fixes float-bits.Post × Fixes float-from-bits.Post × Fixes float-root.Post
+float-fixed = (fixed, fixed, fixed, fixed, fixed, fixed, fixed, fixed, fixed, fixed, fixed, fixed)
 
--- `Corners::read` and `Triangle::corners` promise the three vertices of a triangle, `Corners::distance` the distance at whatever normal
-pub corners-fixed : (c c' : Corners) (t : Triangle) → (c .v0 ≡ t .v0) × (c .v1 ≡ t .v1) × (c .v2 ≡ t .v2) → (c' .v0 ≡ t .v0) × (c' .v1 ≡ t .v1) × (c' .v2 ≡ t .v2) → c ≡ c'
-corners-fixed c c' t p q = alike (fixed (p .0) (q .0)) (fixed (p .1) (q .1)) (fixed (p .2) (q .2))
-  where
-    corners : Vec3 → Vec3 → Vec3 → Corners
-    corners a b c = record { v0 = a; v1 = b; v2 = c }
+-- the calls of `aabb`
+pub aabb-fixed : Fixes vec3-plus.Post × Fixes vec3-minus.Post × Fixes vec3-negated.Post × Fixes vec3-scaled.Post × Fixes vec3-divided.Post × Fixes vec3-dot.Post × Fixes vec3-cross.Post × Fixes vec3-least.Post × Fixes vec3-greatest.Post × Fixes vec3-lowest.Post × Fixes vec3-highest.Post × Fixes vec3-along.Post × Fixes vec3-within.Post × Fixes vec3-at-most.Post × Fixes vec3-all-equal.Post × Fixes vec3-read.Post × Fixes aabb-place.Post × Fixes ray-read.Post × Fixes ray-at.Post × Fixes ray-admitted.Post × Fixes aabb-empty.Post × Fixes aabb-from-points.Post × Fixes aabb-grow.Post × Fixes aabb-union.Post × Fixes aabb-widened.Post × Fixes aabb-joined.Post × Fixes aabb-center.Post × Fixes aabb-extent.Post × Fixes aabb-surface-area.Post × Fixes aabb-bounded.Post × Fixes aabb-is-empty.Post × Fixes aabb-usable.Post × Fixes aabb-read.Post × Fixes aabb-intersect-ray.Post × Fixes sight-of.Post × Fixes aim-of.Post × Fixes aim-through.Post
+aabb-fixed = (fixed, fixed, fixed, fixed, fixed, fixed, fixed, fixed, fixed, fixed, fixed, fixed, fixed, fixed, fixed, fixed, fixed, fixed, fixed, fixed, fixed, fixed, fixed, fixed, fixed, fixed, fixed, fixed, fixed, fixed, fixed, fixed, fixed, fixed, fixed, fixed, fixed)
 
-    alike : {a a' b b' d d' : Vec3} → a ≡ a' → b ≡ b' → d ≡ d' → corners a b d ≡ corners a' b' d'
-    alike e f g = rw (e, f, g)
+-- the calls of `triangle`, but for `refill_normals`
+pub triangle-fixed : Fixes triangle-read.Post × Fixes triangle-aabb.Post × Fixes triangle-corners.Post × Fixes triangle-centroid.Post × Fixes triangle-admitted.Post × Fixes triangle-distance.Post × Fixes triangle-hit.Post × Fixes triangle-intersect.Post × Fixes triangle-new.Post × Fixes corners-read.Post × Fixes corners-centroid.Post × Fixes corners-crossing.Post × Fixes corners-distance.Post × Fixes crossing-distance.Post × Fixes triangle-admitted-at.Post × Fixes triangle-first-refused.Post
+triangle-fixed = (fixed, fixed, fixed, fixed, fixed, fixed, fixed, fixed, fixed, fixed, fixed, fixed, fixed, fixed, fixed, fixed)
 
-pub distance-fixed : (d d' : Distance) (at : Vec3 → Distance) → ((normal : Vec3) → d ≡ at normal) → ((normal : Vec3) → d' ≡ at normal) → d ≡ d'
-distance-fixed d d' at p q = let any = vec nought nought nought in fixed (p any) (q any)
+-- the calls of `tree`
+pub tree-fixed : Fixes node-read.Post × Fixes node-sound.Post × Fixes node-left.Post × Fixes node-right.Post × Fixes tree-misfit.Post
+tree-fixed = (fixed, fixed, fixed, fixed, fixed)
 
--- `Corners::crossing` the four numbers of the test, of every triangle with these vertices
-pub crossing-fixed : (x x' : Crossing) (v0 v1 v2 : Vec3) (r : Ray) → ((a : Triangle) → v0 ≡ a .v0 → v1 ≡ a .v1 → v2 ≡ a .v2 → Crossed r a x) → ((a : Triangle) → v0 ≡ a .v0 → v1 ≡ a .v1 → v2 ≡ a .v2 → Crossed r a x') → x ≡ x'
-crossing-fixed x x' v0 v1 v2 r p q =
-    let any = triangle v0 v1 v2 (vec nought nought nought) in
-    let e = p any refl refl refl in
-    let f = q any refl refl refl in
-    alike (fixed (e .0) (f .0)) (fixed (e .1) (f .1)) (fixed (e .2) (f .2)) (fixed (e .3) (f .3))
-  where
-    crossing : Float → Float → Float → Float → Crossing
-    crossing d u v t = record { det = d; u = u; v = v; t = t }
+-- the answer, and the mesh at the end
+pub refill-normals-fixed : FixesAll triangle-refill-normals.Post {C = Refill × List Float} (λ κs r e. (r, e .0 .now))
+refill-normals-fixed κs x r r' e e' p q = ap (λ (o : Refilling). (o .answer, o .mesh)) (p ∙ sym q)
 
-    alike : {d d' u u' v v' t t' : Float} → d ≡ d' → u ≡ u' → v ≡ v' → t ≡ t' → crossing d u v t ≡ crossing d' u' v' t'
-    alike e f g h = rw (e, f, g, h)
-
--- `refill_normals`: the answer, and the mesh at the end
-pub refill-fixed : (a a' : Refill) (mesh mesh' : List Float) (d : Refilling) → refilling a mesh ≡ d → refilling a' mesh' ≡ d → (a ≡ a') × (mesh ≡ mesh')
-refill-fixed a a' mesh mesh' d p q =
-    let e : refilling a mesh ≡ refilling a' mesh' = p ∙ sym q in
-    (ap (λ (o : Refilling). o .answer) e, ap (λ (o : Refilling). o .mesh) e)
-
--- `build`: the answer, and the index list, boxes and links at the end
-pub build-fixed : (a a' : Built) (index index' : List ℕ) (boxes boxes' : List Float) (links links' : List ℕ) (d : Outcome) → outcome a index boxes links ≡ d → outcome a' index' boxes' links' ≡ d
-    → (a ≡ a') × (index ≡ index') × (boxes ≡ boxes') × (links ≡ links')
-build-fixed a a' index index' boxes boxes' links links' d p q =
-    let e : outcome a index boxes links ≡ outcome a' index' boxes' links' = p ∙ sym q in (
-      ap (λ (o : Outcome). o .answer) e,
-      ap (λ (o : Outcome). o .index) e,
-      ap (λ (o : Outcome). o .boxes) e,
-      ap (λ (o : Outcome). o .links) e,
-    )
+-- the answer, and the index list, boxes and links at the end
+pub build-fixed : FixesAll builder-build.Post {C = Built × List ℕ × List Float × List ℕ} (λ κs r e. (r, e .1 .0 .now, e .1 .1 .0 .now, e .1 .1 .1 .0 .now))
+build-fixed κs x r r' e e' p q = ap (λ (o : Outcome). (o .answer, o .index, o .boxes, o .links)) (p ∙ sym q)
 
 -- `walk` writes nothing lent, and what an answer tells fixes the answer
 told-fixes : (a a' : Answer) → told a ≡ told a' → a ≡ a'
@@ -85,11 +128,9 @@ told-fixes (Refused k i) (Struck h' b' c') p = absurd (let e = ap (λ (t : Told)
 told-fixes (Missed b c) (Refused k' i') p = absurd (let e = ap (λ (t : Told). t .refusal) p in let z : _≡_ {A = ℕ} 0 1 = cc in omega arith)
 told-fixes (Refused k i) (Missed b' c') p = absurd (let e = ap (λ (t : Told). t .refusal) p in let z : _≡_ {A = ℕ} 0 1 = cc in omega arith)
 
-pub walk-fixed : (a a' : Answer) (d : Told) → told a ≡ d → told a' ≡ d → a ≡ a'
-walk-fixed a a' d p q = told-fixes a a' (p ∙ sym q)
+pub walk-fixed : Fixes walk-walk.Post
+walk-fixed = record { same = λ κs x r r' e e' p q. told-fixes r r' (p ∙ sym q) }
 
--- `sky`: the answer, and the answer room at the end
-pub sky-fixed : (a a' : Filled) (times times' : List Float) (places places' : List ℕ) (d : Filling) → filling a times places ≡ d → filling a' times' places' ≡ d → (a ≡ a') × (times ≡ times') × (places ≡ places')
-sky-fixed a a' times times' places places' d p q =
-    let e : filling a times places ≡ filling a' times' places' = p ∙ sym q in
-    (ap (λ (o : Filling). o .answer) e, ap (λ (o : Filling). o .times) e, ap (λ (o : Filling). o .told) e)
+-- the answer, and the answer room at the end
+pub sky-fixed : FixesAll sky-sky.Post {C = Filled × List Float × List ℕ} (λ κs r e. (r, e .1 .1 .1 .1 .1 .0 .now, e .1 .1 .1 .1 .1 .1 .0 .now))
+sky-fixed κs x r r' e e' p q = ap (λ (o : Filling). (o .answer, o .times, o .told)) (p ∙ sym q)

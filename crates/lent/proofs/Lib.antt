@@ -1,3 +1,4 @@
 pub mod Ladder
 pub mod Flat
 pub mod Permutation
+pub mod Fixed

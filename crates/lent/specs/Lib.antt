@@ -3,3 +3,4 @@ pub mod Ladder
 pub mod Flat
 pub mod Permutation
 pub mod Members
+pub mod Fixed

@@ -4,3 +4,4 @@ pub mod Writing
 pub mod Places
 pub mod Lines
 pub mod Whole
+pub mod Fixed

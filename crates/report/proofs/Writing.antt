@@ -54,7 +54,3 @@ wrote-within o p o₁ a₁ w =
     let l = ap length (w .room) ∙ length-append (take 0 o ++ p) (drop (0 + length p) o) ∙ ap (λ (n : ℕ). n + length (drop (0 + length p) o)) (length-append (take 0 o) p) in
     let h : a₁ ≤ length o₁ = omega (arith, w .place, l) in
     (h, sym (length-take-le a₁ o₁ h))
-
--- any two answers that the contract of `survey` allows are equal
-pub wrote-once : (o : List ℕ) (a : ℕ) (p x y : List ℕ) (m n : ℕ) → Wrote o a p x m → Wrote o a p y n → (x ≡ y) × (m ≡ n)
-wrote-once o a p x y m n v w = (v .room ∙ sym (w .room), v .place ∙ sym (w .place))
