@@ -108,6 +108,18 @@ fn in_lists(
     if kind == 1 {
         return score.with(build(fd, triangles, index, boxes, links));
     }
+    in_tree(fd, kind, triangles, index, boxes, links, score)
+}
+
+fn in_tree(
+    fd: i32,
+    kind: u32,
+    triangles: &[f64],
+    index: &mut [u32],
+    boxes: &mut [f64],
+    links: &mut [u32],
+    score: Score,
+) -> Score {
     if !fill_tree(fd, index, boxes, links) {
         return score.with(Check::Cut);
     }
