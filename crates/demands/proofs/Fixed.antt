@@ -13,15 +13,17 @@ use Rattle.triangle.specs.declared.Triangle.{Triangle}
 use Rattle.triangle.specs.declared.Crossing.{Crossing}
 use Rattle.triangle.specs.declared.Distance.{Distance}
 use Rattle.triangle.specs.declared.normals.Refill.{Refill}
-use Rattle.triangle.specs.Refilled.{Outcome as Refilling, outcome as refilling}
+use Rattle.triangle.specs.Refilled.{refillRefusal, Outcome as Refilling, outcome as refilling}
 use Rattle.triangle.proofs.Steps.{triangle, Crossed}
 use Rattle.builder.specs.declared.Built.{Built}
+use Rattle.builder.specs.Reply.{reply}
 use Rattle.builder.specs.Build.{Outcome, outcome}
 use Rattle.walk.specs.declared.Answer.{Answer}
 use Rattle.walk.specs.declared.Answer.the-variants.{Struck, Missed, Refused}
 use Rattle.walk.specs.Answer.{Told, told}
 use Rattle.sky.specs.declared.Filled.{Filled}
-use Rattle.sky.specs.Sky.{Filling, filling}
+use Rattle.sky.specs.Sky.{skyRefusal, Filling, filling}
+use Rattle.demands.proofs.Answers.{refill-told, build-told, sky-told}
 
 -- Every public call of `float`, `aabb` and `triangle` but those of `Corners` and `refill_normals` promises `r ≡ d`, with d a definition of what it was given: two
 -- answers r and r' that the promise allows are equal.
@@ -56,17 +58,17 @@ crossing-fixed x x' v0 v1 v2 r p q =
     alike e f g h = rw (e, f, g, h)
 
 -- `refill_normals`: the answer, and the mesh at the end
-pub refill-fixed : (a a' : Refill) (mesh mesh' : List Float) (d : Refilling) → refilling a mesh ≡ d → refilling a' mesh' ≡ d → (a ≡ a') × (mesh ≡ mesh')
+pub refill-fixed : (a a' : Refill) (mesh mesh' : List Float) (d : Refilling) → refilling (refillRefusal a) mesh ≡ d → refilling (refillRefusal a') mesh' ≡ d → (a ≡ a') × (mesh ≡ mesh')
 refill-fixed a a' mesh mesh' d p q =
-    let e : refilling a mesh ≡ refilling a' mesh' = p ∙ sym q in
-    (ap (λ (o : Refilling). o .answer) e, ap (λ (o : Refilling). o .mesh) e)
+    let e : refilling (refillRefusal a) mesh ≡ refilling (refillRefusal a') mesh' = p ∙ sym q in
+    (refill-told a a' (ap (λ (o : Refilling). o .refusal) e), ap (λ (o : Refilling). o .mesh) e)
 
 -- `build`: the answer, and the index list, boxes and links at the end
-pub build-fixed : (a a' : Built) (index index' : List ℕ) (boxes boxes' : List Float) (links links' : List ℕ) (d : Outcome) → outcome a index boxes links ≡ d → outcome a' index' boxes' links' ≡ d
+pub build-fixed : (a a' : Built) (index index' : List ℕ) (boxes boxes' : List Float) (links links' : List ℕ) (d : Outcome) → outcome (reply a) index boxes links ≡ d → outcome (reply a') index' boxes' links' ≡ d
     → (a ≡ a') × (index ≡ index') × (boxes ≡ boxes') × (links ≡ links')
 build-fixed a a' index index' boxes boxes' links links' d p q =
-    let e : outcome a index boxes links ≡ outcome a' index' boxes' links' = p ∙ sym q in (
-      ap (λ (o : Outcome). o .answer) e,
+    let e : outcome (reply a) index boxes links ≡ outcome (reply a') index' boxes' links' = p ∙ sym q in (
+      build-told a a' (ap (λ (o : Outcome). o .answer) e),
       ap (λ (o : Outcome). o .index) e,
       ap (λ (o : Outcome). o .boxes) e,
       ap (λ (o : Outcome). o .links) e,
@@ -89,7 +91,7 @@ pub walk-fixed : (a a' : Answer) (d : Told) → told a ≡ d → told a' ≡ d �
 walk-fixed a a' d p q = told-fixes a a' (p ∙ sym q)
 
 -- `sky`: the answer, and the answer room at the end
-pub sky-fixed : (a a' : Filled) (times times' : List Float) (places places' : List ℕ) (d : Filling) → filling a times places ≡ d → filling a' times' places' ≡ d → (a ≡ a') × (times ≡ times') × (places ≡ places')
+pub sky-fixed : (a a' : Filled) (times times' : List Float) (places places' : List ℕ) (d : Filling) → filling (skyRefusal a) times places ≡ d → filling (skyRefusal a') times' places' ≡ d → (a ≡ a') × (times ≡ times') × (places ≡ places')
 sky-fixed a a' times times' places places' d p q =
-    let e : filling a times places ≡ filling a' times' places' = p ∙ sym q in
-    (ap (λ (o : Filling). o .answer) e, ap (λ (o : Filling). o .times) e, ap (λ (o : Filling). o .told) e)
+    let e : filling (skyRefusal a) times places ≡ filling (skyRefusal a') times' places' = p ∙ sym q in
+    (sky-told a a' (ap (λ (o : Filling). o .refusal) e), ap (λ (o : Filling). o .times) e, ap (λ (o : Filling). o .told) e)

@@ -1,5 +1,6 @@
 pub mod Same
 pub mod Probes
+pub mod Answers
 pub mod Fixed
 pub mod Walking
 pub mod NearestHit

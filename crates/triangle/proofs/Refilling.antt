@@ -8,7 +8,7 @@ use mathlib.Core.List.{List}
 use lib.ListN.{length, length-set}
 use lib.Ieee.{Float, lt}
 use Rattle.lent.specs.Limits.{most-triangles}
-use Rattle.lent.specs.Ladder.{triangleCount}
+use Rattle.lent.specs.Ladder.{none, numbered, triangleCount}
 use Rattle.lent.proofs.Ladder.{ends, serves, goes, agree, not-below}
 use Rattle.float.specs.Number.{nought, one, trillionth}
 use Rattle.float.specs.Root.{root}
@@ -16,7 +16,6 @@ use Rattle.aabb.specs.declared.vector.Vec3.{Vec3}
 use Rattle.aabb.specs.Vector.{vec, divided, dot}
 use Rattle.triangle.specs.declared.Unadmitted.{Unadmitted}
 use Rattle.triangle.specs.declared.Unadmitted.the-variants.{At, Nothing}
-use Rattle.triangle.specs.declared.normals.Refill.the-variants.{Done, Refused}
 use Rattle.triangle.specs.Mesh.{firstRefused}
 use Rattle.triangle.specs.Normal.{direction}
 use Rattle.triangle.specs.Refilled.{Outcome, outcome, put, filled, filledFrom, checked, refilled}
@@ -56,10 +55,10 @@ module _ (m : List Float) (whole : length m % 12 ≡ 0) (few : triangleCount m �
   counted x e = ends (goes (agree whole) (goes (not-below few) (serves e)))
 
   module _ (f : Unadmitted) (is : f ≡ firstRefused m 0 (triangleCount m)) where
-    pub refill-5 : (i : ℕ) → f ≡ At i → outcome (Refused 5 i) m ≡ refilled m
+    pub refill-5 : (i : ℕ) → f ≡ At i → outcome (numbered 5 i) m ≡ refilled m
     unfolding checked
-    refill-5 i p = counted (outcome (Refused 5 i) m) (ap (checked m) (sym p ∙ is))
+    refill-5 i p = counted (outcome (numbered 5 i) m) (ap (checked m) (sym p ∙ is))
 
-    pub refill-done : f ≡ Nothing → (l : List Float) → l ≡ filledFrom m 0 (triangleCount m) → outcome Done l ≡ refilled m
+    pub refill-done : f ≡ Nothing → (l : List Float) → l ≡ filledFrom m 0 (triangleCount m) → outcome none l ≡ refilled m
     unfolding checked
-    refill-done p l e = counted (outcome Done l) (ap (outcome Done) e ∙ ap (checked m) (sym p ∙ is))
+    refill-done p l e = counted (outcome none l) (ap (outcome none) e ∙ ap (checked m) (sym p ∙ is))

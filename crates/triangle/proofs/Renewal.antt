@@ -12,7 +12,6 @@ use Rattle.lent.specs.Limits.{most-triangles}
 use Rattle.lent.specs.Ladder.{none, numbered, firstFailed, answered, unless, triangleCount}
 use Rattle.triangle.specs.declared.Unadmitted.{Unadmitted}
 use Rattle.triangle.specs.declared.Unadmitted.the-variants.{At, Nothing}
-use Rattle.triangle.specs.declared.normals.Refill.the-variants.{Done, Refused}
 use Rattle.triangle.specs.Mesh.{triangleAt, admittedTriangle, firstRefused}
 use Rattle.triangle.specs.Refilled.{Outcome, outcome, filledFrom, checked, refilled, Renewed}
 use Rattle.triangle.proofs.Admitting.{none-refused, all-admitted}
@@ -26,15 +25,15 @@ record Served (m l : List Float) : Type 0 where
   none-bad : firstRefused m 0 (triangleCount m) ≡ Nothing
   is : l ≡ filledFrom m 0 (triangleCount m)
 
-passed : (m l : List Float) → refilled m ≡ outcome Done l → Served m l
+passed : (m l : List Float) → refilled m ≡ outcome none l → Served m l
 unfolding refilled unless firstFailed answered checked
 passed m l = go (eqb (length m % 12) 0) refl (ltb most-triangles (triangleCount m)) refl (firstRefused m 0 (triangleCount m)) refl
   where
-    clash : {A : Type 0} (number at : ℕ) → outcome (Refused number at) m ≡ outcome Done l → A
-    clash number at e = absurd (let a = ap (λ (o : Outcome). o .answer) e in let z : _≡_ {A = ℕ} 0 1 = cc in omega arith)
+    clash : {A : Type 0} (number at : ℕ) → outcome (numbered number at) m ≡ outcome none l → A
+    clash number at e = absurd (let a = ap (λ (o : Outcome). o .refusal) e in let z : _≡_ {A = ℕ} 0 1 = cc in omega arith)
 
     go : (b : Bool) → eqb (length m % 12) 0 ≡ b → (c : Bool) → ltb most-triangles (triangleCount m) ≡ c → (f : Unadmitted) → firstRefused m 0 (triangleCount m) ≡ f
-        → answered (cond (not b) (numbered 1 0) (cond c (numbered 2 (triangleCount m)) none)) (λ number at. outcome (Refused number at) m) (checked m f) ≡ outcome Done l → Served m l
+        → answered (cond (not b) (numbered 1 0) (cond c (numbered 2 (triangleCount m)) none)) (λ number at. outcome (numbered number at) m) (checked m f) ≡ outcome none l → Served m l
     go false p c q f r e = clash 1 0 e
     go true p true q f r e = clash 2 (triangleCount m) e
     go true p false q (At i) r e = clash 5 i e
@@ -58,7 +57,7 @@ module _ (m : List Float) (few : triangleCount m ≤ most-triangles) (whole : le
   each-new i h =
       subst (λ t. T (admittedTriangle t)) (sym (triangle-new m n (omega arith) i h)) (new-admitted (triangleAt m i) (none-refused m n 0 i none-bad (omega arith) (omega arith)))
 
-  again : refilled l ≡ outcome Done l
+  again : refilled l ≡ outcome none l
   again =
       sym (refill-done l (ap (λ (k : ℕ). k % 12) same ∙ whole) (subst (λ (k : ℕ). k ≤ most-triangles) (sym as-many) few) Nothing
       (sym (ap (λ (k : ℕ). firstRefused l 0 k) as-many ∙ all-admitted l n 0 (λ j p q. each-new j (omega arith)))) refl l
@@ -73,5 +72,5 @@ module _ (m : List Float) (few : triangleCount m ≤ most-triangles) (whole : le
     settled = again;
   }
 
-pub renewed : (m l : List Float) → refilled m ≡ outcome Done l → Renewed m l
+pub renewed : (m l : List Float) → refilled m ≡ outcome none l → Renewed m l
 renewed m l e = let s = passed m l e in subst (λ (z : List Float). Renewed m z) (sym (s .is)) (filled-renewed m (s .few) (s .whole) (s .none-bad))
