@@ -7,3 +7,4 @@ pub mod NearestHit
 pub mod SameHit
 pub mod Demand
 pub mod Sky
+pub mod Surveying

@@ -4,3 +4,4 @@ pub mod Reached
 pub mod NearestHit
 pub mod Demand
 pub mod Sky
+pub mod Survey
