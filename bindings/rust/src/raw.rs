@@ -189,7 +189,7 @@ pub fn root(x: f64) -> f64 {
 /// the normal that they give. Answers on every number.
 pub fn new(corners: &[f64; 9], triangle: &mut [f64; 12]) {
     // SAFETY: two arrays of the lengths that the call is declared with.
-    unsafe { ffi::pigeonmast_new(corners.as_ptr(), triangle.as_mut_ptr()) }
+    unsafe { ffi::pigeonmast_new(corners, triangle) }
 }
 
 /// Refills the normal of each of these triangles, twelve numbers each, from its
@@ -207,5 +207,5 @@ pub fn new(corners: &[f64; 9], triangle: &mut [f64; 12]) {
 /// ```
 pub fn normals(triangles: &mut [f64], told: &mut [u64; 1]) -> u32 {
     // SAFETY: as in `build`.
-    unsafe { ffi::pigeonmast_normals(triangles.as_mut_ptr(), triangles.len(), told.as_mut_ptr()) }
+    unsafe { ffi::pigeonmast_normals(triangles.as_mut_ptr(), triangles.len(), told) }
 }

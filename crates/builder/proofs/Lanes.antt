@@ -17,7 +17,7 @@ use Rattle.aabb.specs.declared.bounds.Aabb.{Aabb}
 use Rattle.builder.specs.declared.bins.Bin.{Bin}
 use Rattle.builder.specs.Bins.{blank, noBin, withBox}
 use Rattle.builder.specs.Layout.{boxPut}
-use Rattle.builder.specs.Lanes.{binAt, lane, Lanes, Vacant}
+use Rattle.builder.specs.inner.Lanes.{binAt, lane, Lanes, Vacant}
 use Rattle.builder.proofs.Placing.{box-here, box-numbers, box-other, box-length, second, third}
 
 up : (n j : ℕ) → suc n + j ≡ n + suc j

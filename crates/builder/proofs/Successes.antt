@@ -4,7 +4,6 @@ use Prim.Native.Nat.{ℕ, zero, suc, _+_, _*_, _/_, _%_, _≤_, _<_}
 use native.Mathlib.Omega.{arith}
 use native.Mathlib.Nat.{zero-add}
 use mathlib.Core.Logic.{_⊎_, ⊎-elim}
-use mathlib.Core.Bool.{false, true≢false}
 use mathlib.Core.Option.{Option, none, some}
 use mathlib.Core.List.{List, [], _++_}
 use lib.ListN.{length, getD, take, drop, length-append, length-drop}
@@ -14,15 +13,14 @@ use lib.Ieee.{Float, nan, neg, le, eq, ofBits}
 use borrow.Author.Tests.{eqb-true, ltb-false, not-false}
 use Rattle.aabb.specs.Bounds.{bounded, emptyBox, isEmpty, usable}
 use Rattle.aabb.specs.Vector.{allAtMost, allEqual, allWithin, within}
-use Rattle.triangle.specs.declared.Unadmitted.{Unadmitted}
-use Rattle.triangle.specs.declared.Unadmitted.the-variants.{At, Nothing}
+use Rattle.triangle.specs.declared.Unadmitted.the-variants.{Nothing}
 use Rattle.triangle.specs.Mesh.{admittedTriangle, triangleAt, firstRefused}
-use Rattle.triangle.proofs.Admitting.{none-refused}
+use Rattle.triangle.proofs.Admitting.{none-unadmitted, none-refused}
 use Rattle.lent.specs.Permutation.{upTo}
 use Rattle.lent.specs.Ladder.{none as unrefused, triangleCount}
 use Rattle.lent.proofs.Ladder.{all-passed}
 use Rattle.builder.specs.Reply.{Reply, servedReply, refusedReply}
-use Rattle.builder.specs.Build.{Outcome, RestStays, built, finished, room, unadmitted}
+use Rattle.builder.specs.Build.{Outcome, RestStays, built, finished, room}
 use Rattle.builder.specs.Layout.{boxesOf, linksOf}
 use Rattle.builder.specs.Runs.{Runs}
 use Rattle.builder.specs.Range.{boxFrom, nodeBox}
@@ -64,11 +62,6 @@ served-reply a p i = record { refusal = p i; nodes = a .nodes; leaves = a .leave
 no-refusal : {A : Type 0} (k a n l : ℕ) → refusedReply k a ≡ servedReply n l → A
 no-refusal k a n l e = absurd (let r = ap (λ (w : Reply). w .refusal) e in let z : _≡_ {A = ℕ} 0 1 = cc in omega arith)
 
-none-bad : (f : Unadmitted) → unadmitted f .fails ≡ false → f ≡ Nothing
-unfolding unadmitted
-none-bad (At i) e = absurd (true≢false e)
-none-bad Nothing e = refl
-
 module _ (mesh : List Float) (index : List ℕ) (boxes : List Float) (links : List ℕ) (nodes leaf-count : ℕ) (o : Outcome) (g : o .answer ≡ servedReply nodes leaf-count) where
   pub record Passed : Type 0 where
     pub whole : length mesh % 12 ≡ 0
@@ -90,7 +83,7 @@ module _ (mesh : List Float) (index : List ℕ) (boxes : List Float) (links : Li
         index-room = ltb-false (length index) (triangleCount mesh) (q .1 .1 .0);
         box-room = ltb-false (length boxes / 6) (room (triangleCount mesh)) (q .1 .1 .1 .0);
         link-room = ltb-false (length links / 3) (room (triangleCount mesh)) (q .1 .1 .1 .1 .0);
-        all-admitted = none-bad (firstRefused mesh 0 (triangleCount mesh)) (q .1 .1 .1 .1 .1 .0);
+        all-admitted = none-unadmitted (firstRefused mesh 0 (triangleCount mesh)) (q .1 .1 .1 .1 .1 .0);
         rest = p .1;
       }
 

@@ -11,7 +11,7 @@ use lib.Ieee.{Float, nan}
 use Rattle.builder.specs.declared.bins.Bin.{Bin}
 use Rattle.builder.specs.Bins.{blank, joinBins, noBin, suffixOf}
 use Rattle.builder.specs.Choice.{weight}
-use Rattle.builder.specs.Lanes.{binAt, lane}
+use Rattle.builder.specs.inner.Lanes.{binAt, lane}
 use Rattle.float.proofs.Cases.{same?}
 use Rattle.builder.proofs.Lanes.{lane-get}
 

@@ -13,7 +13,7 @@ use Rattle.aabb.specs.declared.bounds.Aabb.{Aabb}
 use Rattle.triangle.specs.Mesh.{boundsAt, centroidAt, centroidOf, triangleAt}
 use Rattle.builder.specs.declared.bins.Bin.{Bin}
 use Rattle.builder.specs.Bins.{binOf, blank, filled, noBin, place, withBox, withOne}
-use Rattle.builder.specs.Lanes.{lane, Lanes, OneMore, Vacant}
+use Rattle.builder.specs.inner.Lanes.{lane, Lanes, OneMore, Vacant}
 use Rattle.builder.proofs.Filling.{fill-again, fill-end}
 use Rattle.builder.proofs.Lanes.{More, count-other, lane-apart, lane-more, lane-vacant, lanes-more, lanes-up}
 

@@ -10,16 +10,14 @@ use lib.Seq.{length-take-le, take-at, drop-at}
 use lib.Ieee.{Float}
 use borrow.Rule.Slice.PartMut.{postOf}
 use Rattle.float.specs.Number.{nought}
-use Rattle.triangle.specs.declared.Unadmitted.{Unadmitted}
-use Rattle.triangle.specs.declared.Unadmitted.the-variants.{At, Nothing}
-use Rattle.triangle.specs.Mesh.{firstRefused}
+use Rattle.triangle.specs.Mesh.{firstRefused, unadmitted}
 use Rattle.builder.specs.Reply.{Reply, servedReply, refusedReply}
 use Rattle.builder.specs.declared.division.Made.{Made}
 use Rattle.builder.specs.declared.division.Made.the-variants.{Deep, Next}
 use Rattle.lent.specs.Permutation.{upTo}
 use Rattle.lent.specs.Ladder.{triangleCount}
-use Rattle.lent.proofs.Ladder.{Ends, ends, goes, stops, serves, agree, not-below}
-use Rattle.builder.specs.Build.{Outcome, built, finished, outcome, room, unadmitted}
+use Rattle.lent.proofs.Ladder.{Ends, ends, goes, agree, not-below}
+use Rattle.builder.specs.Build.{Outcome, built, finished, outcome, room}
 use Rattle.tree.proofs.Counts.{odd-size}
 use Rattle.builder.specs.Layout.{Divided, boxesOf, linksOf}
 use Rattle.lent.specs.Limits.{deepest, most-triangles}
@@ -77,16 +75,7 @@ module _ (xs c : List ℕ) (n : ℕ) (h : n ≤ length xs) (e : length c ≡ len
       let a = length-append d (drop (n - 0) (c ++ drop (n - 0) xs)) in let b = ap length rest-again in let g = length-drop n xs in let f = ap length lent-again in let i = c-length in
       omega arith
 
--- ---- the check of refusal 5, and where every check before it passed
-module _ {refused : ℕ → ℕ → Outcome} {served x : Outcome} {f : Unadmitted} where
-  pub bad-at : {i : ℕ} → f ≡ At i → x ≡ refused 5 i → Ends (unadmitted f ∷ []) refused served x
-  unfolding unadmitted
-  bad-at p e = rw p (stops refl e)
-
-  pub none-bad : f ≡ Nothing → x ≡ served → Ends (unadmitted f ∷ []) refused served x
-  unfolding unadmitted
-  none-bad p e = rw p (goes refl (serves e))
-
+-- ---- where every check before that of refusal 5 passed
 pub past-room : (m : List Float) (xs : List ℕ) (bs : List Float) (ls : List ℕ) (k : ℕ) (x : Outcome) → length m % 12 ≡ 0 → triangleCount m ≤ most-triangles → triangleCount m ≤ length xs → k ≡ room (triangleCount m) → k ≤ length bs / 6 → k ≤ length ls / 3
     → Ends (unadmitted (firstRefused m 0 (triangleCount m)) ∷ []) (λ number at. outcome (refusedReply number at) xs bs ls) (finished (triangleCount m) (grow m deepest 0 (upTo (triangleCount m))) xs bs ls) x → x ≡ built m xs bs ls
 unfolding built

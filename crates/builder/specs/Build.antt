@@ -1,16 +1,13 @@
 -- What a build answers and leaves in the lent lists, on every input. Definitions only.
 use Prim.Native.Nat.{ℕ, zero, suc, _+_, _*_, _/_}
 use mathlib.Core.Path.{_≡_}
-use mathlib.Core.Bool.{true, false}
 use mathlib.Core.Option.{Option, none, some}
 use mathlib.Core.List.{List, [], _∷_, _++_}
 use lib.ListN.{length, drop, replicate}
 use lib.Dec.{ltb}
 use lib.Ieee.{Float}
 use Rattle.float.specs.Number.{nought}
-use Rattle.triangle.specs.declared.Unadmitted.{Unadmitted}
-use Rattle.triangle.specs.declared.Unadmitted.the-variants.{At, Nothing}
-use Rattle.triangle.specs.Mesh.{firstRefused}
+use Rattle.triangle.specs.Mesh.{firstRefused, unadmitted}
 use Rattle.lent.specs.Limits.{deepest}
 use Rattle.lent.specs.Ladder.{Check, check, unless, triangleCount, ragged, crowded}
 use Rattle.lent.specs.Permutation.{upTo}
@@ -39,11 +36,6 @@ room (suc n) = 2 * n + 1
 unfoldable pub finished : ℕ → Option Grown → List ℕ → List Float → List ℕ → Outcome
 finished n none index boxes links = outcome (refusedReply 6 0) (replicate (length index) 0) (replicate (length boxes) nought) (replicate (length links) 0)
 finished n (some g) index boxes links = outcome (servedReply (1 + below (g .tree)) (leaves (g .tree))) (g .ids ++ drop n index) (boxesOf (g .tree) 0 1 boxes) (linksOf (g .tree) 0 1 links)
-
--- 5, with the lowest number
-unfoldable pub unadmitted : Unadmitted → Check
-unadmitted (At i) = check true 5 i
-unadmitted Nothing = check false 5 0
 
 -- 1, 2, 3, 4 (node room below R in boxes or links), 5, before anything is written
 abbrev pub buildChecks : List Float → List ℕ → List Float → List ℕ → List Check

@@ -1,6 +1,6 @@
 pub mod Range
 pub mod Bins
-pub mod Lanes
+pub mod inner
 pub mod Choice
 pub mod Partition
 pub mod Fallback

@@ -13,7 +13,7 @@ ghost use Rattle.lent.specs.Limits.{most-triangles};
 ghost use Rattle.builder.specs.Range.{Numbered};
 ghost use Rattle.builder.specs.Layout.{boxPut};
 ghost use Rattle.builder.specs.Bins.{whole, noBin, joinBins, binOf, filled};
-ghost use Rattle.builder.specs.Lanes.{binAt, lane, Lanes, Vacant, OneMore};
+ghost use Rattle.builder.specs.inner.Lanes.{binAt, lane, Lanes, Vacant, OneMore};
 
 pub struct Bin {
     pub count: u32,

@@ -10,7 +10,7 @@ use Rattle.float.specs.Pick.{lesser, greater}
 use Rattle.aabb.specs.Vector.{plus, minus as aabb-minus, negated, scaled, divided, least, greatest, dot, minor, cross, along, within, allWithin, allAtMost, allEqual, vectorAt, pointAt, admittedRay}
 use Rattle.aabb.specs.Bounds.{emptyBox, grown, union, ofThree, extent, areaOf, area, bounded, isEmpty, usable, boxAt}
 use Rattle.aabb.specs.Slab.{sighted, aimed, sightOn, reach, first, second, parallel, unlessLater, clipped, narrowed, andThen, ahead, onAxis, throughFrom, through, slab}
-use Rattle.triangle.specs.Mesh.{triangleAt, boundsOf, centroidOf, admittedTriangle, boundsAt, centroidAt, firstRefused}
+use Rattle.triangle.specs.Mesh.{triangleAt, boundsOf, centroidOf, admittedTriangle, boundsAt, centroidAt, firstRefused, unadmitted}
 use Rattle.triangle.specs.Meeting.{edge1, edge2, pvec, det, invDet, tvec, qvec, uOf, vOf, tOf, judged, distance, faces, hitAt}
 use Rattle.builder.specs.Range.{boxFrom, nodeBox, centroidsFrom, centroidBox}
 use Rattle.builder.specs.Bins.{noBin, withBox, joinBins, binOf, place, filled, suffixOf}
@@ -20,7 +20,7 @@ use Rattle.builder.specs.Fallback.{underAt, ahead as builder-ahead, insert, sor
 use Rattle.builder.specs.Tree.{joined, decision, leafOf, grow}
 use Rattle.builder.specs.Layout.{boxPut, linkPut, boxesOf, linksOf}
 use Rattle.lent.specs.Permutation.{upTo}
-use Rattle.builder.specs.Build.{room, unadmitted, finished, built}
+use Rattle.builder.specs.Build.{room, finished, built}
 use Rattle.lent.specs.Ladder.{triangleCount}
 use Rattle.tree.specs.Node.{linked, nodeAt, sound, leftOf, rightOf}
 use Rattle.walk.specs.Walk.{boxed, replaces, nearer, after, tested, scan, openLeaf, openInternal, opened, judged as scene-judged, visit, hitOf, over, run, walk}

@@ -5,14 +5,16 @@ use Prim.Native.Nat.{ℕ, zero, suc, _+_, _-_, _≤_, _<_}
 use native.Mathlib.Nat.{sub-zero, sub-eq-zero-of-le, le-refl}
 use native.Mathlib.Numerals.{add-one}
 use native.Mathlib.Omega.{arith}
-use mathlib.Core.Bool.{Bool, true, false}
-use mathlib.Core.List.{List}
+use mathlib.Core.Bool.{Bool, true, false, true≢false}
+use mathlib.Core.List.{List, [], _∷_}
 use lib.Dec.{T}
 use lib.Ieee.{Float}
 use lib.Ieee.Bits.{is-true}
+use Rattle.lent.proofs.Ladder.{Ends, goes, stops, serves}
 use Rattle.float.proofs.Cases.{same?}
+use Rattle.triangle.specs.declared.Unadmitted.{Unadmitted}
 use Rattle.triangle.specs.declared.Unadmitted.the-variants.{At, Nothing}
-use Rattle.triangle.specs.Mesh.{triangleAt, admittedTriangle, firstRefused}
+use Rattle.triangle.specs.Mesh.{triangleAt, admittedTriangle, firstRefused, unadmitted}
 
 -- ---- one turn of a loop from i to n
 pub one-more : (i n : ℕ) → i < n → n - i ≡ suc (n - (i + 1))
@@ -55,3 +57,18 @@ pub all-admitted : (m : List Float) (k i : ℕ) → ((j : ℕ) → i ≤ j → j
 unfolding firstRefused
 all-admitted m zero i h = refl
 all-admitted m (suc k) i h = refused-true m i k (is-true (admittedTriangle (triangleAt m i)) (h i (le-refl i) (omega arith))) ∙ all-admitted m k (suc i) (λ j p q. h j (omega arith) (omega arith))
+
+-- ---- check 5, the last of a ladder
+module _ {A : Type 0} {refused : ℕ → ℕ → A} {served x : A} {f : Unadmitted} where
+  pub bad-at : {i : ℕ} → f ≡ At i → x ≡ refused 5 i → Ends (unadmitted f ∷ []) refused served x
+  unfolding unadmitted
+  bad-at p e = rw p (stops refl e)
+
+  pub none-bad : f ≡ Nothing → x ≡ served → Ends (unadmitted f ∷ []) refused served x
+  unfolding unadmitted
+  none-bad p e = rw p (goes refl (serves e))
+
+pub none-unadmitted : (f : Unadmitted) → unadmitted f .fails ≡ false → f ≡ Nothing
+unfolding unadmitted
+none-unadmitted (At i) e = absurd (true≢false e)
+none-unadmitted Nothing e = refl

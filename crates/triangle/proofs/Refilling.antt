@@ -1,24 +1,18 @@
--- What the code that refills normals cites: a direction by its squared length, one triangle more of a loop, and the refusals in their order. Assumes nothing.
+-- What the code that refills normals cites: a direction by its squared length, and one triangle more of a loop. Assumes nothing.
 use mathlib.Core.Path.{_≡_, sym, ap, _∙_}
-use Prim.Native.Nat.{ℕ, _+_, _-_, _%_, _≤_, _<_}
+use Prim.Native.Nat.{ℕ, _+_, _-_, _≤_, _<_}
 use native.Mathlib.Nat.{sub-zero, sub-eq-zero-of-le}
 use native.Mathlib.Numerals.{add-one}
 use mathlib.Core.Bool.{true, false}
 use mathlib.Core.List.{List}
 use lib.ListN.{length, length-set}
 use lib.Ieee.{Float, lt}
-use Rattle.lent.specs.Limits.{most-triangles}
-use Rattle.lent.specs.Ladder.{none, numbered, triangleCount}
-use Rattle.lent.proofs.Ladder.{ends, serves, goes, agree, not-below}
 use Rattle.float.specs.Number.{nought, one, trillionth}
 use Rattle.float.specs.Root.{root}
 use Rattle.aabb.specs.declared.vector.Vec3.{Vec3}
 use Rattle.aabb.specs.Vector.{vec, divided, dot}
-use Rattle.triangle.specs.declared.Unadmitted.{Unadmitted}
-use Rattle.triangle.specs.declared.Unadmitted.the-variants.{At, Nothing}
-use Rattle.triangle.specs.Mesh.{firstRefused}
 use Rattle.triangle.specs.Normal.{direction}
-use Rattle.triangle.specs.Refilled.{Outcome, outcome, put, filled, filledFrom, checked, refilled}
+use Rattle.triangle.specs.Refilled.{put, filled, filledFrom}
 use Rattle.triangle.proofs.Admitting.{one-more}
 
 -- ---- the direction, by the squared length
@@ -47,18 +41,3 @@ module _ (m : List Float) (i n : ℕ) where
 pub length-filled : (m : List Float) (i : ℕ) → length (filled m i) ≡ length m
 unfolding filled put
 length-filled m i = simp length-set
-
--- ---- past the refusals 1 and 2
-module _ (m : List Float) (whole : length m % 12 ≡ 0) (few : triangleCount m ≤ most-triangles) where
-  pub counted : (x : Outcome) → x ≡ checked m (firstRefused m 0 (triangleCount m)) → x ≡ refilled m
-  unfolding refilled
-  counted x e = ends (goes (agree whole) (goes (not-below few) (serves e)))
-
-  module _ (f : Unadmitted) (is : f ≡ firstRefused m 0 (triangleCount m)) where
-    pub refill-5 : (i : ℕ) → f ≡ At i → outcome (numbered 5 i) m ≡ refilled m
-    unfolding checked
-    refill-5 i p = counted (outcome (numbered 5 i) m) (ap (checked m) (sym p ∙ is))
-
-    pub refill-done : f ≡ Nothing → (l : List Float) → l ≡ filledFrom m 0 (triangleCount m) → outcome none l ≡ refilled m
-    unfolding checked
-    refill-done p l e = counted (outcome none l) (ap (outcome none) e ∙ ap (checked m) (sym p ∙ is))

@@ -3,6 +3,7 @@ use Prim.Native.Nat.{ℕ, zero, suc, _+_, _*_}
 use mathlib.Core.Bool.{Bool, true, false, _&&_}
 use mathlib.Core.List.{List}
 use lib.Ieee.{Float}
+use Rattle.lent.specs.Ladder.{Check, check}
 use Rattle.float.specs.Number.{two, three, two-to-40}
 use Rattle.aabb.specs.declared.vector.Vec3.{Vec3}
 use Rattle.aabb.specs.declared.bounds.Aabb.{Aabb}
@@ -39,3 +40,8 @@ centroidAt mesh axis i = along axis (centroidOf (triangleAt mesh i))
 unfoldable pub firstRefused : List Float → ℕ → ℕ → Unadmitted
 firstRefused mesh i zero = Nothing
 firstRefused mesh i (suc k) = elim (admittedTriangle (triangleAt mesh i)) [ true ↦ firstRefused mesh (suc i) k | false ↦ At i ]
+
+-- check 5, with the lowest number
+unfoldable pub unadmitted : Unadmitted → Check
+unadmitted (At i) = check true 5 i
+unadmitted Nothing = check false 5 0

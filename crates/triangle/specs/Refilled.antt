@@ -8,11 +8,9 @@ use lib.Ieee.{Float}
 use Rattle.lent.specs.Ladder.{Refusal, none, numbered, unless, triangleCount, ragged, crowded}
 use Rattle.aabb.specs.declared.vector.Vec3.{Vec3}
 use Rattle.aabb.specs.Vector.{numberAt}
-use Rattle.triangle.specs.declared.Unadmitted.{Unadmitted}
-use Rattle.triangle.specs.declared.Unadmitted.the-variants.{At, Nothing}
 use Rattle.triangle.specs.declared.normals.Refill.{Refill}
 use Rattle.triangle.specs.declared.normals.Refill.the-variants.{Done, Refused}
-use Rattle.triangle.specs.Mesh.{triangleAt, admittedTriangle, firstRefused}
+use Rattle.triangle.specs.Mesh.{triangleAt, admittedTriangle, firstRefused, unadmitted}
 use Rattle.triangle.specs.Normal.{normalOf, newTriangle}
 
 -- the call's answer: the normals are refilled, or document 01's refusal
@@ -45,15 +43,11 @@ unfoldable pub filledFrom : List Float → ℕ → ℕ → List Float
 filledFrom mesh i zero = mesh
 filledFrom mesh i (suc k) = filledFrom (filled mesh i) (suc i) k
 
-unfoldable pub checked : List Float → Unadmitted → Outcome
-checked mesh (At i) = outcome (numbered 5 i) mesh
-checked mesh Nothing = outcome none (filledFrom mesh 0 (triangleCount mesh))
-
 -- Refusals 1, 2, 5 (lowest number), in this order, leave the mesh unchanged
 unfoldable pub refilled : List Float → Outcome
 refilled mesh =
-    unless (ragged mesh ∷ crowded mesh ∷ []) (λ number at. outcome (numbered number at) mesh)
-    (checked mesh (firstRefused mesh 0 (triangleCount mesh)))
+    unless (ragged mesh ∷ crowded mesh ∷ unadmitted (firstRefused mesh 0 (triangleCount mesh)) ∷ []) (λ number at. outcome (numbered number at) mesh)
+    (outcome none (filledFrom mesh 0 (triangleCount mesh)))
 
 -- What a call that is served leaves in the mesh: as many numbers, those of the corners bit for bit, each triangle the one that its corners give, all of them admitted, and nothing that a second call would change
 pub record Renewed (before after : List Float) : Type 0 where

@@ -6,7 +6,8 @@ use lib.ListN.{length}
 use Rattle.builder.specs.Reply.{reply}
 use Rattle.builder.specs.Build.{built}
 use Rattle.builder.proofs.Fills.{room-is}
-use Rattle.builder.proofs.Whole.{past-room, bad-at, none-bad}
+use Rattle.triangle.proofs.Admitting.{bad-at, none-bad}
+use Rattle.builder.proofs.Whole.{past-room}
 use borrow.Author.Needs.{needs}
 use Rattle.lent.proofs.Ladder.{ends, goes, stops, agree, differ, below, not-below}
 use Rattle.builder.proofs.build.Statement.{statement}

@@ -3,7 +3,7 @@ use mathlib.Core.Path.{ap}
 use lib.ListN.{getD}
 use Rattle.aabb.specs.declared.bounds.Aabb.{Aabb}
 use Rattle.builder.specs.declared.bins.Bin.{Bin}
-use Rattle.builder.specs.Lanes.{binAt}
+use Rattle.builder.specs.inner.Lanes.{binAt}
 use borrow.Author.Needs.{needs}
 use Rattle.builder.proofs.bins.bin_at.Statement.{statement}
 use Rattle.builder.proofs.bins.bin_at.Tie as tie

@@ -3,7 +3,7 @@ use Prim.Native.Nat.{_-_, _≤_}
 use native.Mathlib.Omega.{arith}
 use lib.ListN.{length, getD}
 use Rattle.triangle.specs.Mesh.{triangleAt}
-use Rattle.builder.specs.Lanes.{Lanes}
+use Rattle.builder.specs.inner.Lanes.{Lanes}
 use Rattle.lent.specs.Limits.{most-triangles}
 use Rattle.builder.proofs.Lanes.{lanes-up}
 use Rattle.builder.proofs.Passes.{bounds-by, centroid-by}

@@ -10,7 +10,7 @@ use Rattle.aabb.specs.Bounds.{Clear}
 use Rattle.builder.specs.declared.bins.Bin.{Bin}
 use Rattle.builder.specs.Bins.{noBin, suffixOf}
 use Rattle.builder.specs.Choice.{sweepFrom}
-use Rattle.builder.specs.Lanes.{lane, Lanes}
+use Rattle.builder.specs.inner.Lanes.{lane, Lanes}
 use Rattle.lent.specs.Limits.{most-triangles}
 use Rattle.builder.proofs.Choosing.{sweep-end, sweep-next}
 use Rattle.builder.proofs.Sweeping.{Sides, at-number, join-number, lane-bin, lane-length, none-number, sides-most, sides-next, sides-start, suffix-next, suffix-start}

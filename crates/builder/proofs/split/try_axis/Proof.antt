@@ -1,6 +1,6 @@
 -- Skipped, or swept over its filled bins. Assumes nothing.
 use Prim.Native.Nat.{_*_}
-use Rattle.builder.specs.Lanes.{lane}
+use Rattle.builder.specs.inner.Lanes.{lane}
 use Rattle.builder.proofs.Choosing.{try-go, try-skip}
 use borrow.Author.Needs.{needs}
 use Rattle.builder.proofs.split.try_axis.Statement.{statement}

@@ -1,9 +1,10 @@
 -- Each return is a step of the ladder, or the mesh that is filled. Assumes nothing.
-use mathlib.Core.Path.{refl}
+use mathlib.Core.Path.{refl, sym, ap, _∙_}
 use borrow.Author.Needs.{needs}
-use Rattle.lent.proofs.Ladder.{ends, stops, goes, differ, agree, below}
-use Rattle.triangle.specs.Refilled.{refillRefusal, refilled}
-use Rattle.triangle.proofs.Refilling.{refill-5, refill-done}
+use Rattle.lent.proofs.Ladder.{ends, stops, goes, differ, agree, below, not-below}
+use Rattle.triangle.specs.Refilled.{refillRefusal, outcome, refilled}
+use Rattle.lent.specs.Ladder.{none}
+use Rattle.triangle.proofs.Admitting.{bad-at, none-bad}
 use Rattle.triangle.proofs.normals.refill_normals.Statement.{statement}
 use Rattle.triangle.proofs.normals.refill_normals.Tie as tie
 
@@ -25,10 +26,10 @@ same-length : tie.Need-same-length
 same-length c = search needs
 
 returns-3 : tie.Need-returns-3
-unfolding refillRefusal
+unfolding refilled refillRefusal
 returns-3 c =
-    let f = c .before .before .before .first-refused in
-    refill-5 (c .before .before .before .before .before .before .before .before .args .mesh .now) (c .before .before .before .before .before .before .if1 .left) (c .before .before .before .before .before .if2 .left) (f .result) (f .ensures) (c .before .bad .given .0 .0) (c .before .bad .given .1)
+    let t = c .before .before .before .before .before in
+    ends (goes (agree (t .before .if1 .left)) (goes (not-below (t .if2 .left)) (bad-at (sym (c .before .before .before .first-refused .ensures) ∙ c .before .bad .given .1) refl)))
 
 enum-told : tie.Need-enum-told
 enum-told c = search needs
@@ -40,10 +41,12 @@ same-length-2 : tie.Need-same-length-2
 same-length-2 c = search needs
 
 returns-4 : tie.Need-returns-4
-unfolding refillRefusal
+unfolding refilled refillRefusal
 returns-4 c =
-    let f = c .before .before .before .before .before .before .first-refused in
-    refill-done (c .before .before .before .before .before .before .before .before .before .before .before .args .mesh .now) (c .before .before .before .before .before .before .before .before .before .if1 .left) (c .before .before .before .before .before .before .before .before .if2 .left) (f .result) (f .ensures) (c .before .before .before .before .enum-told .given .1) (c .before .before .fill .last .0) (c .before .before .fill .ensures)
+    let k = c .before .before in
+    let f = k .before .before .before .before in
+    let t = f .before .before in
+    ends (goes (agree (t .before .if1 .left)) (goes (not-below (t .if2 .left)) (none-bad (sym (f .first-refused .ensures) ∙ k .before .before .enum-told .given .1) (ap (outcome none) (k .fill .ensures)))))
 
 pub refill-normals-spec : {M : Type 1} → statement M
 refill-normals-spec =
