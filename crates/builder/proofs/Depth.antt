@@ -1,7 +1,7 @@
 -- What refusal 6 means: the tree of a range is one, whatever the levels that it is given, there always is one, and too few levels are just those
 -- below its depth. Assumes nothing.
 use mathlib.Core.Path.{_≡_, refl, sym, _∙_, ap, subst}
-use mathlib.Core.Logic.{_⊎_, inl, inr, ⊎-elim}
+use mathlib.Core.Logic.{⊎-elim}
 use mathlib.Core.Option.{Option, none, some}
 use mathlib.Core.List.{List, _++_}
 use Prim.Native.Nat.{ℕ, zero, suc, _+_, _≤_, _<_, max}
@@ -9,6 +9,9 @@ use native.Mathlib.Omega.{arith}
 use lib.ListN.{length, take, drop, length-drop}
 use lib.Seq.{length-take-le}
 use lib.Ieee.{Float}
+use Rattle.lent.specs.Limits.{deepest}
+use Rattle.lent.specs.Ladder.{none as unrefused, numbered, firstFailed, answered, unless, triangleCount}
+use Rattle.lent.specs.Permutation.{upTo}
 use Rattle.float.proofs.Cases.{low-or-high}
 use Rattle.aabb.specs.declared.bounds.Aabb.{Aabb}
 use Rattle.tree.specs.Tree.{depth, internal}
@@ -18,6 +21,8 @@ use Rattle.builder.specs.Fallback.{separated}
 use Rattle.builder.specs.Range.{nodeBox}
 use Rattle.builder.specs.Tree.{Grown, decision, grow, grownAs, joined, leafOf}
 use Rattle.builder.specs.Depth.{IsTree}
+use Rattle.builder.specs.Reply.{refusedReply}
+use Rattle.builder.specs.Build.{Outcome, buildChecks, finished, built}
 use Rattle.builder.proofs.Growing.{decides-four, grow-deep, grow-fork, grow-leaf}
 use Rattle.builder.proofs.Trees.{Fine, Of-some, cut-of, grown-fine}
 
@@ -132,3 +137,30 @@ module _ (m : List Float) where
 
       pub only-few : grow m d f ids ≡ none → d < depth (g .tree)
       only-few e = ⊎-elim (λ h. h) (λ h. no-tree g (sym e ∙ enough h)) (low-or-high d (depth (g .tree)))
+
+-- ---- refusal 6 of the call, where none of the checks before it refuses
+module _ (mesh : List Float) (index : List ℕ) (boxes : List Float) (links : List ℕ) (passed : firstFailed (buildChecks mesh index boxes links) ≡ unrefused) where
+  abbrev n : ℕ
+  n = triangleCount mesh
+
+  finishes : built mesh index boxes links ≡ finished n (grow mesh deepest 0 (upTo n)) index boxes links
+  unfolding built unless answered
+  finishes = rw passed
+
+  six : (w : Option Grown) → w ≡ none → finished n w index boxes links .answer ≡ refusedReply 6 0
+  unfolding finished
+  six w e = rw e
+
+  no-six : (w : Option Grown) → finished n w index boxes links .answer .refusal ≡ numbered 6 0 → w ≡ none
+  unfolding finished
+  no-six none e = refl
+  no-six (some g) e = absurd (let z : _≡_ {A = ℕ} 0 1 = cc in omega arith)
+
+  module _ (g : Grown) (whole : IsTree mesh 0 (upTo n) g) where
+    -- the tree of the whole mesh has a node deeper than 63: refused by 6
+    pub deep-six : deepest < depth (g .tree) → built mesh index boxes links .answer ≡ refusedReply 6 0
+    deep-six h = ap (λ (o : Outcome). o .answer) finishes ∙ six (grow mesh deepest 0 (upTo n)) (too-few mesh 0 (upTo n) g whole deepest h)
+
+    -- and only then
+    pub six-deep : built mesh index boxes links .answer .refusal ≡ numbered 6 0 → deepest < depth (g .tree)
+    six-deep e = only-few mesh 0 (upTo n) g whole deepest (no-six (grow mesh deepest 0 (upTo n)) (ap (λ (o : Outcome). o .answer .refusal) (sym finishes) ∙ e))

@@ -6,7 +6,7 @@ use native.Mathlib.Nat.{zero-add}
 use mathlib.Core.Logic.{_⊎_, ⊎-elim}
 use mathlib.Core.Option.{Option, none, some}
 use mathlib.Core.List.{List, [], _++_}
-use lib.ListN.{length, getD, take, drop}
+use lib.ListN.{length, getD, take, drop, length-append, length-drop}
 use lib.Seq.{getD-take, length-take-le, take-at, drop-at}
 use lib.Dec.{T, eqb}
 use lib.Ieee.{Float, nan, neg, le, eq, ofBits}
@@ -16,11 +16,11 @@ use Rattle.aabb.specs.Vector.{allAtMost, allEqual, allWithin, within}
 use Rattle.triangle.specs.declared.Unadmitted.the-variants.{Nothing}
 use Rattle.triangle.specs.Mesh.{admittedTriangle, triangleAt, firstRefused}
 use Rattle.triangle.proofs.Admitting.{none-unadmitted, none-refused}
-use Rattle.builder.specs.declared.Built.the-variants.{Tree as Grew, Refused}
 use Rattle.lent.specs.Permutation.{upTo}
-use Rattle.lent.specs.Ladder.{triangleCount}
+use Rattle.lent.specs.Ladder.{none as unrefused, triangleCount}
 use Rattle.lent.proofs.Ladder.{all-passed}
-use Rattle.builder.specs.Build.{Outcome, built, finished, room}
+use Rattle.builder.specs.Reply.{Reply, servedReply, refusedReply}
+use Rattle.builder.specs.Build.{Outcome, RestStays, built, finished, room}
 use Rattle.builder.specs.Layout.{boxesOf, linksOf}
 use Rattle.builder.specs.Runs.{Runs}
 use Rattle.builder.specs.Range.{boxFrom, nodeBox}
@@ -56,10 +56,13 @@ pub record Success (mesh : List Float) (index : List ℕ) (boxes : List Float) (
   pub boxes-are : o .boxes ≡ boxesOf (grown .tree) 0 1 boxes
   pub links-are : o .links ≡ linksOf (grown .tree) 0 1 links
 
-no-refusal : {A : Type 0} (k a n l : ℕ) → Refused k a ≡ Grew n l → A
-no-refusal k a n l e = absurd (let z : _≡_ {A = ℕ} 0 1 = cc in omega arith)
+pub served-reply : (a : Reply) → a .refusal ≡ unrefused → a ≡ servedReply (a .nodes) (a .leaves)
+served-reply a p i = record { refusal = p i; nodes = a .nodes; leaves = a .leaves }
 
-module _ (mesh : List Float) (index : List ℕ) (boxes : List Float) (links : List ℕ) (nodes leaf-count : ℕ) (o : Outcome) (g : o .answer ≡ Grew nodes leaf-count) where
+no-refusal : {A : Type 0} (k a n l : ℕ) → refusedReply k a ≡ servedReply n l → A
+no-refusal k a n l e = absurd (let r = ap (λ (w : Reply). w .refusal) e in let z : _≡_ {A = ℕ} 0 1 = cc in omega arith)
+
+module _ (mesh : List Float) (index : List ℕ) (boxes : List Float) (links : List ℕ) (nodes leaf-count : ℕ) (o : Outcome) (g : o .answer ≡ servedReply nodes leaf-count) where
   pub record Passed : Type 0 where
     pub whole : length mesh % 12 ≡ 0
     pub few : triangleCount mesh ≤ most-triangles
@@ -84,8 +87,8 @@ module _ (mesh : List Float) (index : List ℕ) (boxes : List Float) (links : Li
         rest = p .1;
       }
 
-  grew-same : (a b c d : ℕ) → Grew a b ≡ Grew c d → (c ≡ a) × (d ≡ b)
-  grew-same a b c d e = (cc, cc)
+  grew-same : (a b c d : ℕ) → servedReply a b ≡ servedReply c d → (c ≡ a) × (d ≡ b)
+  grew-same a b c d e = (ap (λ (w : Reply). w .nodes) (sym e), ap (λ (w : Reply). w .leaves) (sym e))
 
   done : Passed → (w : Option Grown) → grow mesh deepest 0 (upTo (triangleCount mesh)) ≡ w → finished (triangleCount mesh) w index boxes links ≡ o → Success mesh index boxes links nodes leaf-count o
   unfolding finished
@@ -259,11 +262,30 @@ module _ (mesh : List Float) (index : List ℕ) (boxes : List Float) (links : Li
   in-order = subst⁻¹ (λ (l : List ℕ). Runs 0 (length l) t) index-taken its-runs
 
   -- the rest of the lent room stays
-  pub index-stays : drop (length mesh / 12) (o .index) ≡ drop (length mesh / 12) index
+  index-stays : drop (length mesh / 12) (o .index) ≡ drop (length mesh / 12) index
   index-stays = ap (λ (z : List ℕ). drop (length mesh / 12) z) (s .index-is) ∙ drop-at (s .grown .ids) (drop (length mesh / 12) index) (length mesh / 12) its-length
 
-  pub boxes-stay : drop (nodes * 6) (o .boxes) ≡ drop (nodes * 6) boxes
+  boxes-stay : drop (nodes * 6) (o .boxes) ≡ drop (nodes * 6) boxes
   boxes-stay = ap (λ (z : List Float). drop (nodes * 6) z) (s .boxes-are) ∙ boxes-rest (nodes * 6) t 0 1 boxes (omega arith) (let e = s .nodes-are in omega arith)
 
-  pub links-stay : drop (nodes * 3) (o .links) ≡ drop (nodes * 3) links
+  links-stay : drop (nodes * 3) (o .links) ≡ drop (nodes * 3) links
   links-stay = ap (λ (z : List ℕ). drop (nodes * 3) z) (s .links-are) ∙ links-rest (nodes * 3) t 0 1 links (omega arith) (let e = s .nodes-are in omega arith)
+
+  index-long : length (o .index) ≡ length index
+  index-long = ap length (s .index-is) ∙ length-append (s .grown .ids) (drop (length mesh / 12) index) ∙ omega (arith, its-length, length-drop (length mesh / 12) index, s .index-room)
+
+  all-stays : o .answer .nodes ≡ nodes → RestStays mesh index boxes links o
+  all-stays e = record {
+    index-long = index-long;
+    boxes-long = ap length (s .boxes-are) ∙ boxes-length t 0 1 boxes;
+    links-long = ap length (s .links-are) ∙ links-length t 0 1 links;
+    index-stays = index-stays;
+    boxes-stay = rw e boxes-stay;
+    links-stay = rw e links-stay;
+  }
+
+-- The rest stays: of every build that is served
+pub rest-stays : (mesh : List Float) (index : List ℕ) (boxes : List Float) (links : List ℕ) → built mesh index boxes links .answer .refusal ≡ unrefused → RestStays mesh index boxes links (built mesh index boxes links)
+rest-stays mesh index boxes links e =
+    let o = built mesh index boxes links in
+    all-stays mesh index boxes links (o .answer .nodes) (o .answer .leaves) o (success mesh index boxes links (o .answer .nodes) (o .answer .leaves) o (served-reply (o .answer) e) refl) refl

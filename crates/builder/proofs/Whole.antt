@@ -11,8 +11,7 @@ use lib.Ieee.{Float}
 use borrow.Rule.Slice.PartMut.{postOf}
 use Rattle.float.specs.Number.{nought}
 use Rattle.triangle.specs.Mesh.{firstRefused, unadmitted}
-use Rattle.builder.specs.declared.Built.{Built}
-use Rattle.builder.specs.declared.Built.the-variants.{Refused, Tree as Grew}
+use Rattle.builder.specs.Reply.{Reply, servedReply, refusedReply}
 use Rattle.builder.specs.declared.division.Made.{Made}
 use Rattle.builder.specs.declared.division.Made.the-variants.{Deep, Next}
 use Rattle.lent.specs.Permutation.{upTo}
@@ -34,26 +33,26 @@ leaves-are t = half (below t) (leaves t) (odd-size t)
     half a b e = omega arith
 
 -- ---- the ends of `make`
-alike : (a a′ : Built) (xs xs′ : List ℕ) (bs bs′ : List Float) (ls ls′ : List ℕ) → a ≡ a′ → xs ≡ xs′ → bs ≡ bs′ → ls ≡ ls′ → outcome a xs bs ls ≡ outcome a′ xs′ bs′ ls′
+alike : (a a′ : Reply) (xs xs′ : List ℕ) (bs bs′ : List Float) (ls ls′ : List ℕ) → a ≡ a′ → xs ≡ xs′ → bs ≡ bs′ → ls ≡ ls′ → outcome a xs bs ls ≡ outcome a′ xs′ bs′ ls′
 alike a a′ xs xs′ bs bs′ ls ls′ p q r s = cc
 
-grew : (n k : ℕ) (e : n ≡ k) → Grew n (n / 2 + 1) ≡ Grew k (k / 2 + 1)
-grew n k e = ap (λ (z : ℕ). Grew z (z / 2 + 1)) e
+grew : (n k : ℕ) (e : n ≡ k) → servedReply n (n / 2 + 1) ≡ servedReply k (k / 2 + 1)
+grew n k e = ap (λ (z : ℕ). servedReply z (z / 2 + 1)) e
 
 pub made-done : (n k : ℕ) (o : Option Grown) (r : Made) (xs d zs : List ℕ) (bs bs₁ : List Float) (ls ls₁ : List ℕ)
-    → Divided o 0 1 bs ls r d bs₁ ls₁ → r ≡ Next k → zs ≡ d ++ drop n xs → outcome (Grew k (k / 2 + 1)) zs bs₁ ls₁ ≡ finished n o xs bs ls
+    → Divided o 0 1 bs ls r d bs₁ ls₁ → r ≡ Next k → zs ≡ d ++ drop n xs → outcome (servedReply k (k / 2 + 1)) zs bs₁ ls₁ ≡ finished n o xs bs ls
 unfolding finished
 made-done n k none r xs d zs bs bs₁ ls ls₁ D e q = absurd (never k (sym e ∙ D))
 made-done n k (some g) r xs d zs bs bs₁ ls ls₁ D e q =
-    alike (Grew k (k / 2 + 1)) (Grew (1 + below (g .tree)) (leaves (g .tree))) zs (g .ids ++ drop n xs) bs₁ (boxesOf (g .tree) 0 1 bs) ls₁ (linksOf (g .tree) 0 1 ls)
-    (grew k (1 + below (g .tree)) (next-same k (1 + below (g .tree)) (sym e ∙ D .answer)) ∙ ap (λ (z : ℕ). Grew (1 + below (g .tree)) z) (leaves-are (g .tree)))
+    alike (servedReply k (k / 2 + 1)) (servedReply (1 + below (g .tree)) (leaves (g .tree))) zs (g .ids ++ drop n xs) bs₁ (boxesOf (g .tree) 0 1 bs) ls₁ (linksOf (g .tree) 0 1 ls)
+    (grew k (1 + below (g .tree)) (next-same k (1 + below (g .tree)) (sym e ∙ D .answer)) ∙ ap (λ (z : ℕ). servedReply (1 + below (g .tree)) z) (leaves-are (g .tree)))
     (q ∙ ap (λ (z : List ℕ). z ++ drop n xs) (D .index-is)) (D .boxes-are) (D .links-are)
 
 pub made-deep : (n : ℕ) (o : Option Grown) (r : Made) (xs d zs : List ℕ) (bs bs₁ bs₂ : List Float) (ls ls₁ ls₂ : List ℕ)
     → Divided o 0 1 bs ls r d bs₁ ls₁ → r ≡ Deep → zs ≡ replicate (length xs) 0 → bs₂ ≡ replicate (length bs) nought → ls₂ ≡ replicate (length ls) 0
-    → outcome (Refused 6 0) zs bs₂ ls₂ ≡ finished n o xs bs ls
+    → outcome (refusedReply 6 0) zs bs₂ ls₂ ≡ finished n o xs bs ls
 unfolding finished
-made-deep n none r xs d zs bs bs₁ bs₂ ls ls₁ ls₂ D e p q s = alike (Refused 6 0) (Refused 6 0) zs (replicate (length xs) 0) bs₂ (replicate (length bs) nought) ls₂ (replicate (length ls) 0) refl p q s
+made-deep n none r xs d zs bs bs₁ bs₂ ls ls₁ ls₂ D e p q s = alike (refusedReply 6 0) (refusedReply 6 0) zs (replicate (length xs) 0) bs₂ (replicate (length bs) nought) ls₂ (replicate (length ls) 0) refl p q s
 made-deep n (some g) r xs d zs bs bs₁ bs₂ ls ls₁ ls₂ D e p q s = absurd (never (1 + below (g .tree)) (sym (D .answer) ∙ e))
 
 -- ---- a list whose front was lent, came back as c, and is lent again
@@ -78,6 +77,6 @@ module _ (xs c : List ℕ) (n : ℕ) (h : n ≤ length xs) (e : length c ≡ len
 
 -- ---- where every check before that of refusal 5 passed
 pub past-room : (m : List Float) (xs : List ℕ) (bs : List Float) (ls : List ℕ) (k : ℕ) (x : Outcome) → length m % 12 ≡ 0 → triangleCount m ≤ most-triangles → triangleCount m ≤ length xs → k ≡ room (triangleCount m) → k ≤ length bs / 6 → k ≤ length ls / 3
-    → Ends (unadmitted (firstRefused m 0 (triangleCount m)) ∷ []) (λ number at. outcome (Refused number at) xs bs ls) (finished (triangleCount m) (grow m deepest 0 (upTo (triangleCount m))) xs bs ls) x → x ≡ built m xs bs ls
+    → Ends (unadmitted (firstRefused m 0 (triangleCount m)) ∷ []) (λ number at. outcome (refusedReply number at) xs bs ls) (finished (triangleCount m) (grow m deepest 0 (upTo (triangleCount m))) xs bs ls) x → x ≡ built m xs bs ls
 unfolding built
 past-room m xs bs ls k x whole few listed e boxed linked rest = rw (← e) (ends (goes (agree whole) (goes (not-below few) (goes (not-below listed) (goes (not-below boxed) (goes (not-below linked) rest))))))

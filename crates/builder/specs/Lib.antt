@@ -7,6 +7,7 @@ pub mod Fallback
 pub mod Tree
 pub mod Depth
 pub mod Layout
+pub mod Reply
 pub mod Build
 pub mod Heap
 pub mod Runs

@@ -17,6 +17,7 @@ ghost use lib.ListN.{length};
 ghost use Rattle.lent.specs.Limits.{most-triangles, deepest};
 ghost use Rattle.builder.specs.Tree.{grow};
 ghost use Rattle.lent.specs.Permutation.{upTo};
+ghost use Rattle.builder.specs.Reply.{reply};
 ghost use Rattle.builder.specs.Build.{outcome, finished, built};
 
 // What a build answers: the tree's node count and leaf count, or a refusal's number and its `at`.
@@ -32,7 +33,7 @@ pub enum Built {
 // 2n-1 or 1); 5 a triangle isn't admitted (at: the lowest such number); 6 the tree would go deeper than 63. Refusals 1 to 5 write nothing;
 // after 6 every number that was lent to be written is zero.
 pub fn build(triangles: &[f64], index: &mut [u32], boxes: &mut [f64], links: &mut [u32]) -> Built
-    ensures { λ r. ⌜ outcome r (now (index .exit)) (now (boxes .exit)) (now (links .exit)) ≡ built (now (triangles .entry)) (now (index .entry)) (now (boxes .entry)) (now (links .entry)) ⌝ }
+    ensures { λ r. ⌜ outcome (reply r) (now (index .exit)) (now (boxes .exit)) (now (links .exit)) ≡ built (now (triangles .entry)) (now (index .entry)) (now (boxes .entry)) (now (links .entry)) ⌝ }
 {
     if triangles.len() % 12 != 0 {
         return Built::Refused { number: 1, at: 0 };
@@ -74,7 +75,7 @@ fn make(
 ) -> Built
     requires { ⌜ n ≤ length (now triangles) / 12 ⌝ }
     requires { ⌜ (n ≤ most-triangles) × (n ≤ length (now index)) × ((1 + 2 * (n - 1)) * 6 ≤ length (now boxes)) × ((1 + 2 * (n - 1)) * 3 ≤ length (now links)) ⌝ }
-    ensures { λ r. ⌜ outcome r (now (index .exit)) (now (boxes .exit)) (now (links .exit)) ≡ finished n (grow (now (triangles .entry)) deepest 0 (upTo n)) (now (index .entry)) (now (boxes .entry)) (now (links .entry)) ⌝ }
+    ensures { λ r. ⌜ outcome (reply r) (now (index .exit)) (now (boxes .exit)) (now (links .exit)) ≡ finished n (grow (now (triangles .entry)) deepest 0 (upTo n)) (now (index .entry)) (now (boxes .entry)) (now (links .entry)) ⌝ }
 {
     start::count_up(&mut index[0..n]);
     let made = division::subdivide(

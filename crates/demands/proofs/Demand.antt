@@ -1,5 +1,5 @@
 -- Demand 3 holds of every tree that a walk can take, and so of every tree that is built. Assumes nothing.
-use mathlib.Core.Path.{_≡_, refl, sym, ap, _∙_}
+use mathlib.Core.Path.{_≡_, refl, sym, ap}
 use Prim.Native.Nat.{ℕ, _*_}
 use native.Mathlib.Omega.{arith}
 use lib.Dec.{T}
@@ -8,7 +8,7 @@ use lib.ListN.{take}
 use lib.Ieee.{Float}
 use Rattle.aabb.specs.declared.vector.Ray.{Ray}
 use Rattle.aabb.specs.Vector.{admittedRay}
-use Rattle.builder.specs.declared.Built.the-variants.{Tree as Grew}
+use Rattle.builder.specs.Reply.{servedReply}
 use Rattle.builder.specs.Build.{Outcome, built}
 use Rattle.builder.proofs.Successes.{success, accepted as accepted-lists}
 use Rattle.tree.specs.Lent.{Lent, lent}
@@ -50,11 +50,11 @@ module _ (mesh : List Float) (index : List ℕ) (boxes : List Float) (links : Li
   abbrev given : Lent
   given = lent mesh (take (triangleCount mesh) (left .index)) (take (nodes * 6) (left .boxes)) (take (nodes * 3) (left .links))
 
-  handed-is : left .answer ≡ Grew nodes leaf-count → handed mesh left ≡ given
+  handed-is : left .answer ≡ servedReply nodes leaf-count → handed mesh left ≡ given
   unfolding handed handedAs
   handed-is e = rw e
 
-  signed : left .answer ≡ Grew nodes leaf-count → Signed given nodes leaf-count
+  signed : left .answer ≡ servedReply nodes leaf-count → Signed given nodes leaf-count
   signed e =
       let w = success mesh index boxes links nodes leaf-count left e refl in
       let t = w .grown .tree in
@@ -73,5 +73,5 @@ module _ (mesh : List Float) (index : List ℕ) (boxes : List Float) (links : Li
       }
 
   -- Demand 3: of every built tree, unchanged, over its own triangles
-  pub built-walk : left .answer ≡ Grew nodes leaf-count → Signed (handed mesh left) nodes leaf-count
+  pub built-walk : left .answer ≡ servedReply nodes leaf-count → Signed (handed mesh left) nodes leaf-count
   built-walk e = rw (handed-is e) (signed e)

@@ -8,14 +8,16 @@ use lib.Ieee.{Float}
 use Rattle.lent.specs.Fixed.{Fixes, FixesAll}
 use Rattle.lent.proofs.Fixed.{fixed}
 use Rattle.triangle.specs.declared.normals.Refill.{Refill}
-use Rattle.triangle.specs.Refilled.{Outcome as Refilling}
+use Rattle.triangle.specs.Refilled.{refillRefusal, Outcome as Refilling, outcome as refilling}
 use Rattle.builder.specs.declared.Built.{Built}
-use Rattle.builder.specs.Build.{Outcome}
+use Rattle.builder.specs.Reply.{reply}
+use Rattle.builder.specs.Build.{Outcome, outcome}
 use Rattle.walk.specs.declared.Answer.{Answer}
 use Rattle.walk.specs.declared.Answer.the-variants.{Struck, Missed, Refused}
 use Rattle.walk.specs.Answer.{Told, told}
 use Rattle.sky.specs.declared.Filled.{Filled}
-use Rattle.sky.specs.Sky.{Filling}
+use Rattle.sky.specs.Sky.{skyRefusal, Filling, filling}
+use Rattle.demands.proofs.Answers.{refill-told, build-told, sky-told}
 use Rattle.float.proofs.infinity.Reads as float-infinity
 use Rattle.float.proofs.magnitude.Reads as float-magnitude
 use Rattle.float.proofs.lesser.Reads as float-lesser
@@ -108,12 +110,18 @@ pub tree-fixed : Fixes node-read.Post × Fixes node-sound.Post × Fixes node-lef
 tree-fixed = (fixed, fixed, fixed, fixed, fixed)
 
 -- the answer, and the mesh at the end
+refill-same : (a b : Refill) (x y : List Float) → refilling (refillRefusal a) x ≡ refilling (refillRefusal b) y → _≡_ {A = Refill × List Float} (a, x) (b, y)
+refill-same a b x y e = let t = refill-told a b (ap (λ (o : Refilling). o .refusal) e) in λ z. (t z, e z .mesh)
+
 pub refill-normals-fixed : FixesAll triangle-refill-normals.Post {C = Refill × List Float} (λ κs r e. (r, e .0 .now))
-refill-normals-fixed κs x r r' e e' p q = ap (λ (o : Refilling). (o .answer, o .mesh)) (p ∙ sym q)
+refill-normals-fixed κs x r r' e e' p q = refill-same r r' _ _ (p ∙ sym q)
 
 -- the answer, and the index list, boxes and links at the end
+build-same : (a b : Built) (i j : List ℕ) (x y : List Float) (k l : List ℕ) → outcome (reply a) i x k ≡ outcome (reply b) j y l → _≡_ {A = Built × List ℕ × List Float × List ℕ} (a, i, x, k) (b, j, y, l)
+build-same a b i j x y k l e = let t = build-told a b (ap (λ (o : Outcome). o .answer) e) in λ z. (t z, e z .index, e z .boxes, e z .links)
+
 pub build-fixed : FixesAll builder-build.Post {C = Built × List ℕ × List Float × List ℕ} (λ κs r e. (r, e .1 .0 .now, e .1 .1 .0 .now, e .1 .1 .1 .0 .now))
-build-fixed κs x r r' e e' p q = ap (λ (o : Outcome). (o .answer, o .index, o .boxes, o .links)) (p ∙ sym q)
+build-fixed κs x r r' e e' p q = build-same r r' _ _ _ _ _ _ (p ∙ sym q)
 
 -- `walk` writes nothing lent, and what an answer tells fixes the answer
 told-fixes : (a a' : Answer) → told a ≡ told a' → a ≡ a'
@@ -132,5 +140,8 @@ pub walk-fixed : Fixes walk-walk.Post
 walk-fixed = record { same = λ κs x r r' e e' p q. told-fixes r r' (p ∙ sym q) }
 
 -- the answer, and the answer room at the end
+sky-same : (a b : Filled) (x y : List Float) (k l : List ℕ) → filling (skyRefusal a) x k ≡ filling (skyRefusal b) y l → _≡_ {A = Filled × List Float × List ℕ} (a, x, k) (b, y, l)
+sky-same a b x y k l e = let t = sky-told a b (ap (λ (o : Filling). o .refusal) e) in λ z. (t z, e z .times, e z .told)
+
 pub sky-fixed : FixesAll sky-sky.Post {C = Filled × List Float × List ℕ} (λ κs r e. (r, e .1 .1 .1 .1 .1 .0 .now, e .1 .1 .1 .1 .1 .1 .0 .now))
-sky-fixed κs x r r' e e' p q = ap (λ (o : Filling). (o .answer, o .times, o .told)) (p ∙ sym q)
+sky-fixed κs x r r' e e' p q = sky-same r r' _ _ _ _ (p ∙ sym q)

@@ -1,8 +1,10 @@
 pub mod Same
 pub mod Probes
+pub mod Answers
 pub mod Fixed
 pub mod Walking
 pub mod NearestHit
 pub mod SameHit
 pub mod Demand
 pub mod Sky
+pub mod Surveying

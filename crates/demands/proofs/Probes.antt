@@ -27,11 +27,12 @@ use Rattle.tree.specs.Node.{linked, nodeAt, sound, leftOf, rightOf}
 use Rattle.walk.specs.Walk.{boxed, replaces, nearer, after, tested, scan, openLeaf, openInternal, opened, judged as scene-judged, visit, hitOf, over, run, walk}
 use Rattle.tree.specs.Node.{misfit}
 use Rattle.demands.specs.Handed.{handedAs, handed}
-use Rattle.demands.specs.Probes.{Probe, slabbed, split, grown as built-row, walked, Claim, All, builtWhole, probes}
+use Rattle.demands.specs.Probes.{Probe, slabbed, slabbedRoot, split, grown as built-row, walked, Claim, All, builtWhole, rootBox, probes}
 use Rattle.demands.proofs.Same.{sameSpan, span-is, sameSplit, split-is, sameOutcome, outcome-is, sameTold, told-is}
 
 abbrev holds : Probe → Bool
 holds (slabbed r b s) = sameSpan (slab r b) s
+holds (slabbedRoot mesh r s) = sameSpan (slab r (rootBox mesh)) s
 holds (split mesh d) = sameSplit (decision mesh (upTo (triangleCount mesh))) d
 holds (built-row mesh o) = sameOutcome (builtWhole mesh) o
 holds (walked mesh r t) = sameTold (walk (handed mesh (builtWhole mesh)) r) t
@@ -42,6 +43,7 @@ allHold (p ∷ ps) = holds p && allHold ps
 
 claim : (p : Probe) → T (holds p) → Claim p
 claim (slabbed r b s) h = span-is (slab r b) s h
+claim (slabbedRoot mesh r s) h = span-is (slab r (rootBox mesh)) s h
 claim (split mesh d) h = split-is (decision mesh (upTo (triangleCount mesh))) d h
 claim (built-row mesh o) h = outcome-is (builtWhole mesh) o h
 claim (walked mesh r t) h = told-is (walk (handed mesh (builtWhole mesh)) r) t h
@@ -52,7 +54,7 @@ claims (p ∷ ps) h = (claim p (and-l (holds p) (allHold ps) h), claims ps (and-
 
 -- the test, computed over the whole table
 table : T (allHold probes)
-unfolding probes handedAs handed builtWhole lesser greater plus aabb-minus negated scaled divided least greatest dot minor cross along within allWithin allAtMost allEqual vectorAt pointAt admittedRay emptyBox grown union ofThree extent areaOf area bounded isEmpty usable boxAt sighted aimed sightOn reach first second parallel unlessLater clipped narrowed andThen ahead onAxis throughFrom through slab triangleAt cornersOf boundsOf centroidOf admittedTriangle boundsAt centroidAt edge1 edge2 pvec det invDet tvec qvec uOf vOf tOf judged distanceTo distance faces hitAt boxFrom nodeBox centroidsFrom centroidBox noBin withBox joinBins binOf place filled suffixOf weight costOf betterOf sweepFrom tryAxis leafCost bestOfAxes chosen bestSplit moves lower parted underAt builder-ahead insert sorted ordered settled separated joined decision leafOf grow put boxPut linkPut boxesOf linksOf upTo room firstRefused unadmitted finished built linked nodeAt sound leftOf rightOf boxed replaces nearer after tested scan openLeaf openInternal opened scene-judged visit hitOf over run misfit walk unless firstFailed answered isNan lt le eq add sub mul div neg ofBits ofInt sum round units odd size span climb trailingZeros
+unfolding probes handedAs handed builtWhole rootBox lesser greater plus aabb-minus negated scaled divided least greatest dot minor cross along within allWithin allAtMost allEqual vectorAt pointAt admittedRay emptyBox grown union ofThree extent areaOf area bounded isEmpty usable boxAt sighted aimed sightOn reach first second parallel unlessLater clipped narrowed andThen ahead onAxis throughFrom through slab triangleAt cornersOf boundsOf centroidOf admittedTriangle boundsAt centroidAt edge1 edge2 pvec det invDet tvec qvec uOf vOf tOf judged distanceTo distance faces hitAt boxFrom nodeBox centroidsFrom centroidBox noBin withBox joinBins binOf place filled suffixOf weight costOf betterOf sweepFrom tryAxis leafCost bestOfAxes chosen bestSplit moves lower parted underAt builder-ahead insert sorted ordered settled separated joined decision leafOf grow put boxPut linkPut boxesOf linksOf upTo room firstRefused unadmitted finished built linked nodeAt sound leftOf rightOf boxed replaces nearer after tested scan openLeaf openInternal opened scene-judged visit hitOf over run misfit walk unless firstFailed answered isNan lt le eq add sub mul div neg ofBits ofInt sum round units odd size span climb trailingZeros
 table = tt
 
 -- P1 to P12

@@ -15,8 +15,7 @@ use Rattle.triangle.specs.declared.Hit.{Hit}
 use Rattle.triangle.specs.declared.Found.{Found}
 use Rattle.triangle.specs.declared.Found.the-variants.{At, Nothing}
 use Rattle.triangle.proofs.Steps.{hit}
-use Rattle.builder.specs.declared.Built.{Built}
-use Rattle.builder.specs.declared.Built.the-variants.{Tree, Refused}
+use Rattle.builder.specs.Reply.{Reply}
 use Rattle.builder.specs.declared.split.SplitDecision.{SplitDecision}
 use Rattle.builder.specs.declared.split.SplitDecision.the-variants.{Split, MakeLeaf}
 use Rattle.builder.specs.Build.{Outcome, outcome}
@@ -170,24 +169,21 @@ told-is a b h =
     (eqb→eq (a .triangles) (b .triangles) (search (and-l, and-r)))
 
 -- ---- what a build answers and leaves
-abbrev sameBuilt : Built → Built → Bool
-sameBuilt (Tree m l) (Tree n k) = eqb m n && eqb l k
-sameBuilt (Refused m l) (Refused n k) = eqb m n && eqb l k
-sameBuilt (Tree m l) (Refused n k) = false
-sameBuilt (Refused m l) (Tree n k) = false
+abbrev sameReply : Reply → Reply → Bool
+sameReply a b = sameRefusal (a .refusal) (b .refusal) && (eqb (a .nodes) (b .nodes) && eqb (a .leaves) (b .leaves))
 
-built-is : (x y : Built) → T (sameBuilt x y) → x ≡ y
-built-is (Tree m l) (Tree n k) h = let p = eqb→eq m n (and-l (eqb m n) (eqb l k) h) in let q = eqb→eq l k (and-r (eqb m n) (eqb l k) h) in rw (p, q)
-built-is (Refused m l) (Refused n k) h = let p = eqb→eq m n (and-l (eqb m n) (eqb l k) h) in let q = eqb→eq l k (and-r (eqb m n) (eqb l k) h) in rw (p, q)
-built-is (Tree m l) (Refused n k) h = absurd h
-built-is (Refused m l) (Tree n k) h = absurd h
+abbrev replies : Refusal → ℕ → ℕ → Reply
+replies r n l = record { refusal = r; nodes = n; leaves = l }
+
+reply-is : (a b : Reply) → T (sameReply a b) → a ≡ b
+reply-is a b h = congruent3 replies (refusal-is (a .refusal) (b .refusal) (search (and-l, and-r))) (eqb→eq (a .nodes) (b .nodes) (search (and-l, and-r))) (eqb→eq (a .leaves) (b .leaves) (search (and-l, and-r)))
 
 abbrev pub sameOutcome : Outcome → Outcome → Bool
 sameOutcome a b =
-    sameBuilt (a .answer) (b .answer)
+    sameReply (a .answer) (b .answer)
     && (sameList eqb eqb→eq (a .index) (b .index) && (sameList sameFloat float-is (a .boxes) (b .boxes) && sameList eqb eqb→eq (a .links) (b .links)))
 
 pub outcome-is : (a b : Outcome) → T (sameOutcome a b) → a ≡ b
 outcome-is a b h =
-    congruent4 outcome (built-is (a .answer) (b .answer) (search (and-l, and-r))) (list-is eqb eqb→eq (a .index) (b .index) (search (and-l, and-r)))
+    congruent4 outcome (reply-is (a .answer) (b .answer) (search (and-l, and-r))) (list-is eqb eqb→eq (a .index) (b .index) (search (and-l, and-r)))
     (list-is sameFloat float-is (a .boxes) (b .boxes) (search (and-l, and-r))) (list-is eqb eqb→eq (a .links) (b .links) (search (and-l, and-r)))

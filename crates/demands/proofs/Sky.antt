@@ -1,30 +1,27 @@
 -- Demand 3 for every place of a sky of rays over a built tree: a place tells what the single walk answers, and that meets it. Assumes nothing.
 use mathlib.Core.Path.{_≡_, refl, ap, _∙_}
 use mathlib.Core.Logic.{inl, inr}
-use mathlib.Core.List.{List, _++_}
+use mathlib.Core.List.{List}
 use Prim.Native.Nat.{ℕ, _*_, _%_, _≤_}
 use native.Mathlib.Omega.{arith}
-use lib.Dec.{T}
-use lib.ListN.{length, drop}
+use lib.ListN.{length}
 use lib.Ieee.{Float}
 use Rattle.float.specs.Number.{nought}
 use Rattle.aabb.specs.declared.vector.Ray.{Ray}
-use Rattle.aabb.specs.Vector.{admittedRay, rayAt}
+use Rattle.aabb.specs.Vector.{rayAt}
 use Rattle.triangle.specs.declared.Hit.{Hit}
 use Rattle.triangle.specs.declared.Found.{Found}
 use Rattle.triangle.specs.declared.Found.the-variants.{At, Nothing}
-use Rattle.builder.specs.declared.Built.the-variants.{Tree as Grew}
+use Rattle.builder.specs.Reply.{servedReply}
 use Rattle.builder.specs.Build.{built}
-use Rattle.sky.specs.declared.Filled.the-variants.{Places}
 use Rattle.sky.specs.declared.Place.{Place}
 use Rattle.tree.specs.Lent.{Lent}
 use Rattle.lent.specs.Ladder.{none}
-use Rattle.lent.specs.Flat.{records}
 use Rattle.walk.specs.Answer.{Told}
 use Rattle.walk.specs.Walk.{walk}
 use Rattle.tree.specs.Tree.{Tree}
-use Rattle.sky.specs.Sky.{rayCount, placed, placeOf, timesFor, toldFor, placeAt, Filling, filling, sky}
-use Rattle.sky.proofs.Room.{place-k, filled-is, served}
+use Rattle.sky.specs.Sky.{rayCount, placed, placeOf, placeAt, sky}
+use Rattle.sky.proofs.Room.{place-k, served}
 use Rattle.demands.specs.Handed.{handed}
 use Rattle.demands.specs.Demand.{Demand3}
 use Rattle.demands.specs.Sky.{Demand3At, SignedSky}
@@ -78,19 +75,16 @@ module _ (mesh : List Float) (index : List ℕ) (boxes : List Float) (links : Li
   abbrev s : Lent
   s = handed mesh (built mesh index boxes links)
 
-  abbrev full : Filling
-  full = filling Places (records (timesFor s rays) (rayCount rays) ++ drop (rayCount rays) times) (records (toldFor s rays) (rayCount rays) ++ drop (rayCount rays * 4) told)
-
   -- Rule G4: an unchanged built tree over its own triangles, rays in sixes, answer room that suffices, and each ray that is admitted, whatever the others are.
-  pub built-sky : built mesh index boxes links .answer ≡ Grew nodes leaf-count → length rays % 6 ≡ 0 → rayCount rays ≤ length times → rayCount rays * 4 ≤ length told
+  pub built-sky : built mesh index boxes links .answer ≡ servedReply nodes leaf-count → length rays % 6 ≡ 0 → rayCount rays ≤ length times → rayCount rays * 4 ≤ length told
       → SignedSky s nodes leaf-count rays (sky s rays times told)
   built-sky e sixes timed roomy =
       let w = built-walk mesh index boxes links nodes leaf-count e in
       let W = w .accepted .walkable in
-      let is : full ≡ sky s rays times told = filled-is s rays (rayCount rays) times _ told _ refl refl ∙ served s rays times told (W .whole) (W .few) sixes timed roomy in
-      rw (← is)
-      (record {
+      let o = sky s rays times told in
+      let is : o .refusal ≡ none = served s rays times told (W .whole) (W .few) sixes timed roomy in
+      record {
         signed = w;
-        served = refl;
-        each = λ k h R. demand-3-at s (w .tree) (rayAt rays k) (w .answer (rayAt rays k) R) (placeAt (full .times) (full .told) k) (place-k s rays times told (rayCount rays) k h);
-      })
+        served = is;
+        each = λ k h R. demand-3-at s (w .tree) (rayAt rays k) (w .answer (rayAt rays k) R) (placeAt (o .times) (o .told) k) (place-k s rays times told is k h);
+      }

@@ -3,16 +3,14 @@ use Prim.Native.Nat.{_*_}
 use mathlib.Core.List.{List, []}
 use lib.ListN.{take}
 use lib.Ieee.{Float}
-use Rattle.builder.specs.declared.Built.{Built}
-use Rattle.builder.specs.declared.Built.the-variants.{Tree, Refused}
 use Rattle.builder.specs.Build.{Outcome}
 use Rattle.tree.specs.Lent.{Lent, lent}
-use Rattle.lent.specs.Ladder.{triangleCount}
+use Rattle.lent.specs.Ladder.{Refusal, none, numbered, triangleCount}
 
 -- a refused build hands over nothing
-unfoldable pub handedAs : List Float → Outcome → Built → Lent
-handedAs mesh o (Tree nodes leaves) = lent mesh (take (triangleCount mesh) (o .index)) (take (nodes * 6) (o .boxes)) (take (nodes * 3) (o .links))
-handedAs mesh o (Refused number at) = lent mesh [] [] []
+unfoldable pub handedAs : List Float → Outcome → Refusal → Lent
+handedAs mesh o none = lent mesh (take (triangleCount mesh) (o .index)) (take (o .answer .nodes * 6) (o .boxes)) (take (o .answer .nodes * 3) (o .links))
+handedAs mesh o (numbered number at) = lent mesh [] [] []
 
 unfoldable pub handed : List Float → Outcome → Lent
-handed mesh o = handedAs mesh o (o .answer)
+handed mesh o = handedAs mesh o (o .answer .refusal)

@@ -5,3 +5,4 @@ pub mod NearestHit
 pub mod SameLeaves
 pub mod Demand
 pub mod Sky
+pub mod Survey

@@ -12,10 +12,10 @@ use Rattle.aabb.specs.declared.bounds.Aabb.{Aabb}
 use Rattle.aabb.specs.declared.slab.Span.{Span}
 use Rattle.aabb.specs.declared.slab.Span.the-variants.{Passed, Missed}
 use Rattle.aabb.specs.Vector.{vec}
-use Rattle.aabb.specs.Bounds.{box, emptyBox}
+use Rattle.aabb.specs.Bounds.{box, boxAt}
 use Rattle.aabb.specs.Slab.{slab}
 use Rattle.triangle.specs.declared.Found.the-variants.{At, Nothing}
-use Rattle.builder.specs.declared.Built.the-variants.{Tree}
+use Rattle.builder.specs.Reply.{servedReply}
 use Rattle.builder.specs.declared.split.SplitDecision.{SplitDecision}
 use Rattle.builder.specs.declared.split.SplitDecision.the-variants.{Split}
 use Rattle.builder.specs.Tree.{decision}
@@ -48,6 +48,8 @@ quarter = over 1 2
 pub data Probe : Type 0 where
   -- a ray against a box: the times, or none
   slabbed : Ray → Aabb → Span → Probe
+  -- a ray against the root's box, read from the built lists of a mesh
+  slabbedRoot : List Float → Ray → Span → Probe
   -- the split of a whole mesh
   split : List Float → SplitDecision → Probe
   -- a mesh, built in room that just suffices
@@ -59,8 +61,13 @@ pub data Probe : Type 0 where
 unfoldable pub builtWhole : List Float → Outcome
 builtWhole mesh = built mesh (replicate (triangleCount mesh) 0) (replicate (room (triangleCount mesh) * 6) (int 0)) (replicate (room (triangleCount mesh) * 3) 0)
 
+-- node 0's box, as the built lists have it
+unfoldable pub rootBox : List Float → Aabb
+rootBox mesh = boxAt (handed mesh (builtWhole mesh) .tree .boxes) 0
+
 abbrev pub Claim : Probe → Type 0
 Claim (slabbed r b s) = slab r b ≡ s
+Claim (slabbedRoot mesh r s) = slab r (rootBox mesh) ≡ s
 Claim (split mesh d) = decision mesh (upTo (triangleCount mesh)) ≡ d
 Claim (grown mesh o) = builtWhole mesh ≡ o
 Claim (walked mesh r t) = walk (handed mesh (builtWhole mesh)) r ≡ t
@@ -114,13 +121,13 @@ along-x a b = a ∷ int 0 ∷ int 0 ∷ b ∷ int 3 ∷ int 0 ∷ []
 unfoldable pub probes : List Probe
 probes =
     -- P1: the tree of no triangles is one node, whose box a slanting ray passes and one that is flat on an axis does not
-    grown [] (outcome (Tree 1 1) [] infinite (0 ∷ 0 ∷ 1 ∷ [])) ∷
-    slabbed (ray (vec quarter quarter (int 1)) (vec (int 1) (int 1) (int 1))) emptyBox (Passed (int 0) (inf false)) ∷
-    slabbed (down quarter quarter (int 1)) emptyBox Missed ∷
+    grown [] (outcome (servedReply 1 1) [] infinite (0 ∷ 0 ∷ 1 ∷ [])) ∷
+    slabbedRoot [] (ray (vec quarter quarter (int 1)) (vec (int 1) (int 1) (int 1))) (Passed (int 0) (inf false)) ∷
+    slabbedRoot [] (down quarter quarter (int 1)) Missed ∷
     walked [] (ray (vec quarter quarter (int 1)) (vec (int 1) (int 1) (int 1))) (missed 1 0) ∷
     walked [] (down quarter quarter (int 1)) (missed 1 0) ∷
     -- P2: T from above is met at 1, from the front, after one test of each kind
-    grown T (outcome (Tree 1 1) (0 ∷ []) flat (0 ∷ 1 ∷ 1 ∷ [])) ∷
+    grown T (outcome (servedReply 1 1) (0 ∷ []) flat (0 ∷ 1 ∷ 1 ∷ [])) ∷
     walked T (down quarter quarter (int 1)) (struck (int 1) (vec quarter quarter (int 0)) up true 0 1 1) ∷
     -- P3: and from below, from the back, the normal turned round
     walked T (ray (vec quarter quarter (minus 1)) up) (struck (int 1) (vec quarter quarter (int 0)) (vec (minus 0) (minus 0) (minus 1)) false 0 1 1) ∷
@@ -137,11 +144,11 @@ probes =
     slabbed (ray (vec (over 1 1) (over 1 1) (times 1 1)) (vec (int 0) (int 0) (fin true 1 (negsuc 39)))) unit Missed ∷
     slabbed (ray (vec (over 1 1) (over 1 1) (times 1 1)) (vec (int 0) (int 0) (fin true 1 (negsuc 38)))) unit (Passed (times 1 39) (times 1 40)) ∷
     -- P9: T five times over is one leaf
-    grown (T ++ T ++ T ++ T ++ T) (outcome (Tree 1 1) (0 ∷ 1 ∷ 2 ∷ 3 ∷ 4 ∷ []) (flat ++ replicate 48 (int 0)) (0 ∷ 5 ∷ 1 ∷ replicate 24 0)) ∷
+    grown (T ++ T ++ T ++ T ++ T) (outcome (servedReply 1 1) (0 ∷ 1 ∷ 2 ∷ 3 ∷ 4 ∷ []) (flat ++ replicate 48 (int 0)) (0 ∷ 5 ∷ 1 ∷ replicate 24 0)) ∷
     -- P10: the row of five is split on x at 21, two to the left and three to the right
     split five (Split 0 (int 21)) ∷
     grown five
-    (outcome (Tree 3 2) (0 ∷ 1 ∷ 3 ∷ 4 ∷ 2 ∷ []) (along-x (int 0) (int 67) ++ along-x (int 0) (int 19) ++ along-x (times 1 5) (int 67) ++ replicate 36 (int 0))
+    (outcome (servedReply 3 2) (0 ∷ 1 ∷ 3 ∷ 4 ∷ 2 ∷ []) (along-x (int 0) (int 67) ++ along-x (int 0) (int 19) ++ along-x (times 1 5) (int 67) ++ replicate 36 (int 0))
     (1 ∷ 0 ∷ 0 ∷ 0 ∷ 2 ∷ 1 ∷ 2 ∷ 3 ∷ 1 ∷ replicate 18 0)) ∷
     -- P11: down on the second of the row: three box tests, and the left leaf's two triangles
     walked five (down (int 17) (int 1) (int 1)) (struck (int 1) (vec (int 17) (int 1) (int 0)) up true 1 3 2) ∷

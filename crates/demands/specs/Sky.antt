@@ -10,9 +10,8 @@ use Rattle.aabb.specs.declared.vector.Ray.{Ray}
 use Rattle.aabb.specs.Vector.{admittedRay, rayAt}
 use Rattle.triangle.specs.declared.Hit.{Hit}
 use Rattle.sky.specs.declared.Place.{Place}
-use Rattle.sky.specs.declared.Filled.the-variants.{Places}
 use Rattle.tree.specs.Lent.{Lent}
-use Rattle.lent.specs.Ladder.{triangleCount}
+use Rattle.lent.specs.Ladder.{none, triangleCount}
 use Rattle.tree.specs.Tree.{Tree, leaves}
 use Rattle.demands.specs.Reached.{entered, reached}
 use Rattle.lent.specs.Members.{Every}
@@ -40,5 +39,5 @@ pub record Demand3At (s : Lent) (t : Tree) (r : Ray) (p : Place) : Type 0 where
 -- ---- what is signed
 pub record SignedSky (s : Lent) (nodes leaf-count : ℕ) (rays : List Float) (o : Filling) : Type 0 where
   pub signed : Signed s nodes leaf-count
-  pub served : o .answer ≡ Places
+  pub served : o .refusal ≡ none
   pub each : (k : ℕ) → k < rayCount rays → T (admittedRay (rayAt rays k)) → Demand3At s (signed .tree) (rayAt rays k) (placeAt (o .times) (o .told) k)

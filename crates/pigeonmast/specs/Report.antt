@@ -9,16 +9,11 @@ use Rattle.triangle.specs.declared.Triangle.{Triangle}
 use Rattle.triangle.specs.declared.Hit.{Hit}
 use Rattle.triangle.specs.declared.Found.{Found}
 use Rattle.triangle.specs.declared.Found.the-variants.{At, Nothing}
-use Rattle.triangle.specs.declared.normals.Refill.{Refill}
-use Rattle.triangle.specs.declared.normals.Refill.the-variants.{Done, Refused as Unrefilled}
 use Rattle.triangle.specs.Refilled.{Outcome as Refilling}
-use Rattle.builder.specs.declared.Built.{Built}
-use Rattle.builder.specs.declared.Built.the-variants.{Tree, Refused}
+use Rattle.builder.specs.Reply.{Reply}
 use Rattle.builder.specs.Build.{Outcome}
 use Rattle.lent.specs.Ladder.{Refusal, none, numbered}
 use Rattle.walk.specs.Answer.{Told}
-use Rattle.sky.specs.declared.Filled.{Filled}
-use Rattle.sky.specs.declared.Filled.the-variants.{Places, Refused as Unfilled}
 use Rattle.sky.specs.Sky.{Filling}
 
 -- ---- pigeonmast_abi (rule X5)
@@ -45,6 +40,16 @@ unfoldable pub triangleNumbers : Triangle → List Float
 triangleNumbers a =
     a .v0 .x ∷ a .v0 .y ∷ a .v0 .z ∷ a .v1 .x ∷ a .v1 .y ∷ a .v1 .z ∷ a .v2 .x ∷ a .v2 .y ∷ a .v2 .z ∷ a .normal .x ∷ a .normal .y ∷ a .normal .z ∷ []
 
+-- 0, or the refusal number
+unfoldable pub refusalNumber : Refusal → ℕ
+refusalNumber none = 0
+refusalNumber (numbered number at) = number
+
+-- its at, or 0
+unfoldable pub refusalAt : Refusal → ℕ
+refusalAt none = 0
+refusalAt (numbered number at) = at
+
 -- ---- pigeonmast_build (rule X1)
 -- the number, and what told, the index list, the boxes and the links hold at the end
 pub record Build : Type 0 where
@@ -57,18 +62,16 @@ pub record Build : Type 0 where
 abbrev pub build : ℕ → List ℕ → List ℕ → List Float → List ℕ → Build
 build answer told index boxes links = record { answer = answer; told = told; index = index; boxes = boxes; links = links }
 
--- 0, or the refusal number
-unfoldable pub buildAnswer : Built → ℕ
-buildAnswer (Tree nodes leaves) = 0
-buildAnswer (Refused number at) = number
-
 -- told = node count, leaf count; or told = at, 0
-unfoldable pub buildTold : Built → List ℕ
-buildTold (Tree nodes leaves) = nodes ∷ leaves ∷ []
-buildTold (Refused number at) = at ∷ 0 ∷ []
+unfoldable pub countsTold : Refusal → ℕ → ℕ → List ℕ
+countsTold none nodes leaves = nodes ∷ leaves ∷ []
+countsTold (numbered number at) nodes leaves = at ∷ 0 ∷ []
+
+unfoldable pub buildTold : Reply → List ℕ
+buildTold r = countsTold (r .refusal) (r .nodes) (r .leaves)
 
 unfoldable pub buildReport : Outcome → Build
-buildReport o = build (buildAnswer (o .answer)) (buildTold (o .answer)) (o .index) (o .boxes) (o .links)
+buildReport o = build (refusalNumber (o .answer .refusal)) (buildTold (o .answer)) (o .index) (o .boxes) (o .links)
 
 -- ---- pigeonmast_walk (rule X2)
 -- the number, and what numbers and told hold at the end
@@ -102,16 +105,8 @@ abbrev pub sky : ℕ → List ℕ → List Float → List ℕ → Sky
 sky answer at times told = record { answer = answer; at = at; times = times; told = told }
 
 -- 0, or the refusal number with its at
-unfoldable pub skyAnswer : Filled → ℕ
-skyAnswer Places = 0
-skyAnswer (Unfilled number at) = number
-
-unfoldable pub skyAt : Filled → List ℕ
-skyAt Places = 0 ∷ []
-skyAt (Unfilled number at) = at ∷ []
-
 unfoldable pub skyReport : Filling → Sky
-skyReport o = sky (skyAnswer (o .answer)) (skyAt (o .answer)) (o .times) (o .told)
+skyReport o = sky (refusalNumber (o .refusal)) (refusalAt (o .refusal) ∷ []) (o .times) (o .told)
 
 -- ---- pigeonmast_slab and pigeonmast_triangle (rule X4)
 -- the number, and what times or numbers hold at the end
@@ -143,13 +138,5 @@ abbrev pub normals : ℕ → List ℕ → List Float → Normals
 normals answer told triangles = record { answer = answer; told = told; triangles = triangles }
 
 -- 0, or the refusal number with its at
-unfoldable pub normalsAnswer : Refill → ℕ
-normalsAnswer Done = 0
-normalsAnswer (Unrefilled number at) = number
-
-unfoldable pub normalsTold : Refill → List ℕ
-normalsTold Done = 0 ∷ []
-normalsTold (Unrefilled number at) = at ∷ []
-
 unfoldable pub normalsReport : Refilling → Normals
-normalsReport o = normals (normalsAnswer (o .answer)) (normalsTold (o .answer)) (o .mesh)
+normalsReport o = normals (refusalNumber (o .refusal)) (refusalAt (o .refusal) ∷ []) (o .mesh)

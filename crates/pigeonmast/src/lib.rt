@@ -13,6 +13,7 @@ use triangle::Refill;
 use triangle::Triangle;
 use walk::Answer;
 ghost use mathlib.Core.Path.{_≡_};
+ghost use mathlib.Core.List.{[], _∷_};
 ghost use Rattle.float.specs.Root.{root};
 ghost use Rattle.aabb.specs.Vector.{rayAt, vectorAt};
 ghost use Rattle.aabb.specs.Bounds.{boxAt};
@@ -20,13 +21,14 @@ ghost use Rattle.aabb.specs.Slab.{slab};
 ghost use Rattle.triangle.specs.Mesh.{triangleAt};
 ghost use Rattle.triangle.specs.Meeting.{strike};
 ghost use Rattle.triangle.specs.Normal.{newTriangle};
-ghost use Rattle.triangle.specs.Refilled.{refilled};
+ghost use Rattle.triangle.specs.Refilled.{refillRefusal, refilled};
+ghost use Rattle.builder.specs.Reply.{reply};
 ghost use Rattle.builder.specs.Build.{built};
 ghost use Rattle.tree.specs.Lent.{lent};
 ghost use Rattle.walk.specs.Answer.{told as answered};
 ghost use Rattle.walk.specs.Walk as scene;
-ghost use Rattle.sky.specs.Sky.{sky as filled};
-ghost use Rattle.pigeonmast.specs.Report.{abi, hitNumbers, frontNumber, sideNumber, build, buildAnswer, buildTold, buildReport, walk, walked, sky, skyAnswer, skyAt, skyReport, test, slabReport, triangleReport, triangleNumbers, normals, normalsAnswer, normalsTold, normalsReport};
+ghost use Rattle.sky.specs.Sky.{skyRefusal, sky as filled};
+ghost use Rattle.pigeonmast.specs.Report.{abi, hitNumbers, frontNumber, sideNumber, refusalNumber, refusalAt, build, buildTold, buildReport, walk, walked, sky, skyReport, test, slabReport, triangleReport, triangleNumbers, normals, normalsReport};
 
 // A hit's seven numbers: t, point, normal.
 fn hit_numbers(hit: Hit) -> [f64; 7]
@@ -59,8 +61,8 @@ fn side_number(hit: Hit) -> u32
 
 // What a build answered: the number, with `told` written.
 fn tell_build(answer: Built, told: &mut [u64; 2]) -> u32
-    ensures { λ r. ⌜ r ≡ buildAnswer answer ⌝ }
-    ensures { λ _. ⌜ now (told .exit) ≡ buildTold answer ⌝ }
+    ensures { λ r. ⌜ r ≡ refusalNumber (reply answer .refusal) ⌝ }
+    ensures { λ _. ⌜ now (told .exit) ≡ buildTold (reply answer) ⌝ }
 {
     match answer {
         Built::Tree { nodes, leaves } => {
@@ -101,8 +103,8 @@ fn tell_walk(answer: Answer, numbers: &mut [f64; 7], told: &mut [u64; 4]) -> u32
 
 // What a sky of rays answered: 0 or the refusal number, with `at` written.
 fn tell_sky(answer: Filled, at: &mut [u64; 1]) -> u32
-    ensures { λ r. ⌜ r ≡ skyAnswer answer ⌝ }
-    ensures { λ _. ⌜ now (at .exit) ≡ skyAt answer ⌝ }
+    ensures { λ r. ⌜ r ≡ refusalNumber (skyRefusal answer) ⌝ }
+    ensures { λ _. ⌜ now (at .exit) ≡ refusalAt (skyRefusal answer) ∷ [] ⌝ }
 {
     match answer {
         Filled::Places => {
@@ -173,8 +175,8 @@ fn triangle_numbers(t: Triangle) -> [f64; 12]
 
 // What a call that refills normals answered: 0 or the refusal number, with `told` written.
 fn tell_normals(answer: Refill, told: &mut [u64; 1]) -> u32
-    ensures { λ r. ⌜ r ≡ normalsAnswer answer ⌝ }
-    ensures { λ _. ⌜ now (told .exit) ≡ normalsTold answer ⌝ }
+    ensures { λ r. ⌜ r ≡ refusalNumber (refillRefusal answer) ⌝ }
+    ensures { λ _. ⌜ now (told .exit) ≡ refusalAt (refillRefusal answer) ∷ [] ⌝ }
 {
     match answer {
         Refill::Done => {

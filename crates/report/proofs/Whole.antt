@@ -12,6 +12,7 @@ use lib.Seq.{length-take-le, length-front, take-at, take-all}
 use lib.Ieee.{Float}
 use Rattle.builder.specs.declared.Built.{Built}
 use Rattle.builder.specs.declared.Built.the-variants.{Tree, Refused}
+use Rattle.builder.specs.Reply.{Reply, reply}
 use Rattle.builder.specs.Build.{outcome}
 use Rattle.tree.specs.Lent.{Lent, lent}
 use Rattle.report.specs.declared.input.Input.{Input}
@@ -36,7 +37,7 @@ shown xs w nodes r h e = go (leb nodes 399) refl
         let up : 399 * w ≤ nodes * w = product 399 nodes (omega arith) in
         ap (λ (z : ℕ). take (z * w) xs) (e ∙ min-eq-right (omega arith)) ∙ take-all (399 * w) xs (omega arith) ∙ sym (take-all (nodes * w) xs (omega arith))
 
-pub handed-is : (mesh : List Float) (n nodes r : ℕ) (a : Built) (i : List ℕ) (b : List Float) (l : List ℕ) → length b ≡ 2394 → length l ≡ 1197 → r ≡ min nodes 399
+pub handed-is : (mesh : List Float) (n nodes r : ℕ) (a : Reply) (i : List ℕ) (b : List Float) (l : List ℕ) → length b ≡ 2394 → length l ≡ 1197 → r ≡ min nodes 399
     → lent mesh (take (n - 0) i) (take (r * 6 - 0) b) (take (r * 3 - 0) l) ≡ handed mesh n nodes (outcome a i b l)
 unfolding handed
 handed-is mesh n nodes r a i b l h k e = rw (sub-zero n, sub-zero (r * 6), sub-zero (r * 3), shown b 6 nodes r h e, shown l 3 nodes r k e)
@@ -55,13 +56,13 @@ mesh-is s xs c n h k e =
     take-at c (drop (n * 12 - 0) xs) (n * 12 - 0) (k ∙ w ∙ sym (sub-zero (n * 12))) ∙ e ∙ ap (λ (z : ℕ). numbers s 4 z) w
 
 -- ---- the build's cases
-module _ (s : List ℕ) (mesh : List Float) (n m : ℕ) (a : Built) (i : List ℕ) (b : List Float) (l : List ℕ) (p : outcome a i b l ≡ builtOf mesh) where
+module _ (s : List ℕ) (mesh : List Float) (n m : ℕ) (a : Built) (i : List ℕ) (b : List Float) (l : List ℕ) (p : outcome (reply a) i b l ≡ builtOf mesh) where
   pub refused-report : (k at : ℕ) → a ≡ Refused k at → buildRefusedLine k at ≡ reported s mesh n m
-  unfolding reported reportOf
+  unfolding reply reported reportOf
   refused-report k at q = rw (← p, q)
 
-  pub built-report : (nodes leaves : ℕ) (w : Lent) → a ≡ Tree nodes leaves → w ≡ handed mesh n nodes (outcome a i b l) → builtLine nodes leaves ++ rayLines s (8 + 96 * n) w m ≡ reported s mesh n m
-  unfolding reported reportOf
+  pub built-report : (nodes leaves : ℕ) (w : Lent) → a ≡ Tree nodes leaves → w ≡ handed mesh n nodes (outcome (reply a) i b l) → builtLine nodes leaves ++ rayLines s (8 + 96 * n) w m ≡ reported s mesh n m
+  unfolding reply reported reportOf
   built-report nodes leaves w q e = rw (e, ← p, q)
 
 -- ---- the input's cases

@@ -4,8 +4,7 @@ use mathlib.Core.List.{List, [], _++_}
 use lib.ListN.{take, replicate}
 use lib.Ieee.{Float}
 use Rattle.float.specs.Number.{nought}
-use Rattle.builder.specs.declared.Built.{Built}
-use Rattle.builder.specs.declared.Built.the-variants.{Tree, Refused}
+use Rattle.lent.specs.Ladder.{Refusal, none, numbered}
 use Rattle.builder.specs.Build.{Outcome, built}
 use Rattle.tree.specs.Lent.{Lent, lent}
 use Rattle.walk.specs.Walk.{walk}
@@ -29,12 +28,12 @@ unfoldable pub builtOf : List Float → Outcome
 builtOf mesh = built mesh (replicate 200 0) (replicate 2394 nought) (replicate 1197 0)
 
 -- Rules I5 and I6: the line of a refused build; else the counts, and one line for each of the m rays
-unfoldable pub reportOf : List ℕ → List Float → ℕ → ℕ → Outcome → Built → List ℕ
-reportOf s mesh n m o (Refused k i) = buildRefusedLine k i
-reportOf s mesh n m o (Tree nodes leaves) = builtLine nodes leaves ++ rayLines s (raysAt n) (handed mesh n nodes o) m
+unfoldable pub reportOf : List ℕ → List Float → ℕ → ℕ → Outcome → Refusal → List ℕ
+reportOf s mesh n m o (numbered k i) = buildRefusedLine k i
+reportOf s mesh n m o none = builtLine (o .answer .nodes) (o .answer .leaves) ++ rayLines s (raysAt n) (handed mesh n (o .answer .nodes) o) m
 
 unfoldable pub reported : List ℕ → List Float → ℕ → ℕ → List ℕ
-reported s mesh n m = reportOf s mesh n m (builtOf mesh) (builtOf mesh .answer)
+reported s mesh n m = reportOf s mesh n m (builtOf mesh) (builtOf mesh .answer .refusal)
 
 -- Rule I2: the input is measured whole first, so cut input with a bad triangle is `bad input`
 unfoldable pub surveyedAs : List ℕ → Input → List ℕ

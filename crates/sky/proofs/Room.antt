@@ -1,5 +1,5 @@
 -- The answer room, place by place: what is written, then what was there, and each place is its own walk's. Assumes nothing.
-use mathlib.Core.Path.{_≡_, refl, ap, _∙_}
+use mathlib.Core.Path.{_≡_, refl, sym, ap, subst, _∙_}
 use mathlib.Core.List.{List, _++_}
 use Prim.Native.Nat.{ℕ, _+_, _*_, _%_, _≤_, _<_}
 use native.Mathlib.Omega.{arith}
@@ -7,9 +7,9 @@ use lib.ListN.{length, set, getD, drop}
 use lib.Seq.{sets}
 use lib.Ieee.{Float, nan}
 use Rattle.lent.specs.Limits.{most-triangles}
-use Rattle.lent.specs.Ladder.{triangleCount}
+use Rattle.lent.specs.Ladder.{none, numbered, triangleCount}
 use Rattle.lent.specs.Flat.{put, records}
-use Rattle.lent.proofs.Ladder.{ends, goes, serves, agree, not-below}
+use Rattle.lent.proofs.Ladder.{ends, goes, serves, agree, not-below, all-passed}
 use Rattle.lent.proofs.Flat.{fill-more, records-length, records-at}
 use Rattle.aabb.specs.declared.vector.Ray.{Ray}
 use Rattle.aabb.specs.Vector.{rayAt}
@@ -17,9 +17,8 @@ use Rattle.walk.specs.declared.Answer.{Answer}
 use Rattle.tree.specs.Lent.{Lent}
 use Rattle.walk.specs.Answer.{told as answered}
 use Rattle.walk.specs.Walk.{walk}
-use Rattle.sky.specs.declared.Filled.the-variants.{Places}
 use Rattle.sky.specs.declared.Place.{Place}
-use Rattle.sky.specs.Sky.{rayCount, placeOf, placeFor, toldOf, toldFor, timesFor, placeAt, filling, filled, sky}
+use Rattle.sky.specs.Sky.{rayCount, placeOf, placeFor, toldOf, toldFor, timesFor, placeAt, Filling, filling, filled, sky}
 
 pub place-is : (s : Lent) (rays : List Float) (k : ℕ) (r : Ray) (a : Answer) (p : Place) → r ≡ rayAt rays k → answered a ≡ walk s r → p ≡ placeOf (answered a) → p ≡ placeFor s rays k
 unfolding placeFor
@@ -59,19 +58,29 @@ module _ (s : Lent) (rays : List Float) where
       time : getD (records (timesFor s rays) n ++ drop n times) k nan ≡ placeFor s rays k .t
       time = records-at (timesFor s rays) 1 (λ i. refl) n (drop n times) k k 0 nan h (omega arith) (omega arith)
 
-  -- Place k tells the walk of ray k
-  pub place-k : (times : List Float) (told : List ℕ) (n k : ℕ) → k < n
-      → placeAt (records (timesFor s rays) n ++ drop n times) (records (toldFor s rays) n ++ drop (n * 4) told) k ≡ placeOf (walk s (rayAt rays k))
-  unfolding placeFor
-  place-k times told n k h = place-in times told n k h
-
   -- ---- the call
-  pub filled-is : (n : ℕ) (times times′ : List Float) (told told′ : List ℕ) → times′ ≡ records (timesFor s rays) n ++ drop n times → told′ ≡ records (toldFor s rays) n ++ drop (n * 4) told → filling Places times′ told′ ≡ filled s rays n times told
+  pub filled-is : (n : ℕ) (times times′ : List Float) (told told′ : List ℕ) → times′ ≡ records (timesFor s rays) n ++ drop n times → told′ ≡ records (toldFor s rays) n ++ drop (n * 4) told → filling none times′ told′ ≡ filled s rays n times told
   unfolding filled
   filled-is n times times′ told told′ e f = rw (e, f)
 
-  -- where none of the checks fails, every place is filled
+  -- where none of the checks fails, the call is served
   pub served : (times : List Float) (told : List ℕ) → length (s .mesh .triangles) % 12 ≡ 0 → triangleCount (s .mesh .triangles) ≤ most-triangles → length rays % 6 ≡ 0 → rayCount rays ≤ length times → rayCount rays * 4 ≤ length told
-      → filled s rays (rayCount rays) times told ≡ sky s rays times told
+      → sky s rays times told .refusal ≡ none
+  unfolding sky filled
+  served times told whole few sixes timed roomy = ap (λ (o : Filling). o .refusal) (sym (ends (goes (agree whole) (goes (not-below few) (goes (agree sixes) (goes (not-below timed) (goes (not-below roomy) (serves refl))))))))
+
+  -- a call that is served passed every check, so every place is filled
+  filled-all : (times : List Float) (told : List ℕ) → sky s rays times told .refusal ≡ none → filled s rays (rayCount rays) times told ≡ sky s rays times told
   unfolding sky
-  served times told whole few sixes timed roomy = ends (goes (agree whole) (goes (not-below few) (goes (agree sixes) (goes (not-below timed) (goes (not-below roomy) (serves refl))))))
+  filled-all times told e = all-passed _ _ _ (sky s rays times told) refl (λ k a r. clash k a (ap (λ (o : Filling). o .refusal) r ∙ e)) .1
+    where
+      clash : (k a : ℕ) → numbered k a ≡ none → ⊥
+      clash k a p = let z : _≡_ {A = ℕ} 0 1 = cc in omega arith
+
+  places : (times : List Float) (told : List ℕ) (k : ℕ) → k < rayCount rays → placeAt (filled s rays (rayCount rays) times told .times) (filled s rays (rayCount rays) times told .told) k ≡ placeOf (walk s (rayAt rays k))
+  unfolding filled placeFor
+  places times told k h = place-in times told (rayCount rays) k h
+
+  -- Place k is what the single walk gives for ray k
+  pub place-k : (times : List Float) (told : List ℕ) → sky s rays times told .refusal ≡ none → (k : ℕ) → k < rayCount rays → placeAt (sky s rays times told .times) (sky s rays times told .told) k ≡ placeOf (walk s (rayAt rays k))
+  place-k times told e k h = subst (λ (o : Filling). placeAt (o .times) (o .told) k ≡ placeOf (walk s (rayAt rays k))) (filled-all times told e) (places times told k h)

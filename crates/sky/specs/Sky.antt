@@ -58,18 +58,23 @@ placeAt times told k = record {
 }
 
 -- ---- the call
--- the answer, and what the lent answer room holds at the end
+-- its answer: every place is filled, or document 02's refusal of the whole call
+unfoldable pub skyRefusal : Filled → Refusal
+skyRefusal Places = none
+skyRefusal (Refused number at) = numbered number at
+
+-- the refusal if there is one, and what the lent answer room holds at the end
 pub record Filling : Type 0 where
-  pub answer : Filled
+  pub refusal : Refusal
   pub times : List Float
   pub told : List ℕ
 
-abbrev pub filling : Filled → List Float → List ℕ → Filling
-filling answer times told = record { answer = answer; times = times; told = told }
+abbrev pub filling : Refusal → List Float → List ℕ → Filling
+filling refusal times told = record { refusal = refusal; times = times; told = told }
 
 -- Rule K3: one place for each of n rays; room beyond them stays
 unfoldable pub filled : Lent → List Float → ℕ → List Float → List ℕ → Filling
-filled s rays n times told = filling Places (records (timesFor s rays) n ++ drop n times) (records (toldFor s rays) n ++ drop (n * 4) told)
+filled s rays n times told = filling none (records (timesFor s rays) n ++ drop n times) (records (toldFor s rays) n ++ drop (n * 4) told)
 
 -- Rule K4: the whole call is refused, and writes nothing, for the mesh (1, 2), for rays that are not in sixes (14), and for room that is too short in
 -- times or in told (13)
@@ -82,5 +87,5 @@ sky s rays times told =
     ∷ check (ltb (length times) (rayCount rays)) 13 0
     ∷ check (ltb (length told) (rayCount rays * 4)) 13 0
     ∷ [])
-    (λ number at. filling (Refused number at) times told)
+    (λ number at. filling (numbered number at) times told)
     (filled s rays (rayCount rays) times told)

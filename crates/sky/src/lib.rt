@@ -9,7 +9,7 @@ ghost use lib.ListN.{length, set, drop};
 ghost use Rattle.lent.specs.Flat.{put as written, records};
 ghost use Rattle.tree.specs.Lent.{lent};
 ghost use Rattle.walk.specs.Answer.{told as answered};
-ghost use Rattle.sky.specs.Sky.{placeOf, toldOf, timesFor, toldFor, filling, sky};
+ghost use Rattle.sky.specs.Sky.{placeOf, toldOf, timesFor, toldFor, skyRefusal, filling, sky};
 
 // What the call answers: every ray's place is filled, or the whole call is refused, with a number and `at`.
 pub enum Filled {
@@ -112,7 +112,7 @@ pub fn sky(
     times: &mut [f64],
     told: &mut [u64],
 ) -> Filled
-    ensures { λ r. ⌜ filling r (now (times .exit)) (now (told .exit)) ≡ sky (lent (now (triangles .entry)) (now (index .entry)) (now (boxes .entry)) (now (links .entry))) (now (rays .entry)) (now (times .entry)) (now (told .entry)) ⌝ }
+    ensures { λ r. ⌜ filling (skyRefusal r) (now (times .exit)) (now (told .exit)) ≡ sky (lent (now (triangles .entry)) (now (index .entry)) (now (boxes .entry)) (now (links .entry))) (now (rays .entry)) (now (times .entry)) (now (told .entry)) ⌝ }
 {
     let numbers = triangles.len();
     if numbers % 12 != 0 {

@@ -8,7 +8,7 @@ ghost use mathlib.Core.Path.{_≡_};
 ghost use Prim.Native.Nat.{_+_, _*_, _/_, _≤_};
 ghost use lib.ListN.{length};
 ghost use Rattle.triangle.specs.Normal.{direction, normalOf, newTriangle};
-ghost use Rattle.triangle.specs.Refilled.{outcome, put, filled, filledFrom, refilled};
+ghost use Rattle.triangle.specs.Refilled.{refillRefusal, outcome, put, filled, filledFrom, refilled};
 
 // What a call answers: the normals are refilled, or a refusal's number and its `at`.
 pub enum Refill {
@@ -54,7 +54,7 @@ fn direction(cross: Vec3) -> Vec3
 // Refills every normal of a mesh, twelve numbers a triangle, from the corners (rule T7); no other number changes. Refused, in this order, and then nothing
 // is written: 1 the numbers are not in twelves; 2 more than 65,536 triangles (at: how many); 5 a triangle isn't admitted (at: the lowest number).
 pub fn refill_normals(mesh: &mut [f64]) -> Refill
-    ensures { λ r. ⌜ outcome r (now (mesh .exit)) ≡ refilled (now (mesh .entry)) ⌝ }
+    ensures { λ r. ⌜ outcome (refillRefusal r) (now (mesh .exit)) ≡ refilled (now (mesh .entry)) ⌝ }
 {
     if mesh.len() % 12 != 0 {
         return Refill::Refused { number: 1, at: 0 };

@@ -3,6 +3,7 @@ use Prim.Native.Nat.{_/_}
 use native.Mathlib.Omega.{arith}
 use mathlib.Core.Path.{refl, sym, _∙_}
 use lib.ListN.{length}
+use Rattle.builder.specs.Reply.{reply}
 use Rattle.builder.specs.Build.{built}
 use Rattle.builder.proofs.Fills.{room-is}
 use Rattle.triangle.proofs.Admitting.{bad-at, none-bad}
@@ -13,29 +14,29 @@ use Rattle.builder.proofs.build.Statement.{statement}
 use Rattle.builder.proofs.build.Tie as tie
 
 returns : tie.Need-returns
-unfolding built
+unfolding built reply
 returns c = ends (stops (differ (c .if1 .taken)) refl)
 
 returns-2 : tie.Need-returns-2
-unfolding built
+unfolding built reply
 returns-2 c = ends (goes (agree (c .before .if1 .left)) (stops (below (c .if2 .taken)) refl))
 
 returns-3 : tie.Need-returns-3
-unfolding built
+unfolding built reply
 returns-3 c = ends (goes (agree (c .before .before .if1 .left)) (goes (not-below (c .before .if2 .left)) (stops (below (c .if3 .taken)) refl)))
 
 room-requires : tie.Need-room-requires
 room-requires c κs = search needs
 
 returns-4 : tie.Need-returns-4
-unfolding built
+unfolding built reply
 returns-4 c =
     let m = c .before .before in
     rw (← (c .before .room .ensures))
     (ends (goes (agree (m .before .before .if1 .left)) (goes (not-below (m .before .if2 .left)) (goes (not-below (m .if3 .left)) (stops (below (c .if4 .taken)) refl)))))
 
 returns-5 : tie.Need-returns-5
-unfolding built
+unfolding built reply
 returns-5 c =
     let m = c .before .before .before in
     rw (← (c .before .before .room .ensures))
@@ -50,6 +51,7 @@ enum-known-bad : tie.Need-enum-known-bad
 enum-known-bad c = search needs
 
 returns-6 : tie.Need-returns-6
+unfolding reply
 returns-6 c =
     let f = c .before .before .before in
     let r = f .before .before .before in

@@ -9,6 +9,7 @@ use borrow.Rule.Slice.PartMut.{postOf}
 use Rattle.float.specs.Number.{nought}
 use Rattle.lent.specs.Permutation.{upTo}
 use Rattle.lent.specs.Permutation.{occ}
+use Rattle.builder.specs.Reply.{reply}
 use Rattle.builder.specs.Layout.{Divided}
 use Rattle.lent.specs.Limits.{deepest}
 use Rattle.builder.specs.Tree.{grow}
@@ -78,6 +79,7 @@ same-length-3 : tie.Need-same-length-3
 same-length-3 c = c .before .before .clear2 .kept .0 ∙ c .before .before .before .before .before .before .before .before .before .before .before .before .before .before .before .before .before .before .before .before .subdivide .kept .1 .1 .1 .0
 
 returns : tie.Need-returns
+unfolding reply
 returns c =
     let a = c .before .before .before .before .before .before .before .before .before .before .before .before .before .before .before .before .before .before .before .before .before .before .before .before .before .before .before .before .before .before .before .before .args in
     let u = c .before .before .before .before .before .before .before .before .before .before .before .before .before .before .before .before .before .before .before .before .before .before .before .before .before .before .count-up in
@@ -110,6 +112,7 @@ same-length-6 : tie.Need-same-length-6
 same-length-6 c = c .before .before .before .before .before .before .before .before .before .subdivide .kept .1 .1 .1 .0
 
 returns-2 : tie.Need-returns-2
+unfolding reply
 returns-2 c =
     let a = c .before .before .before .before .before .before .before .before .before .before .before .before .before .before .before .before .before .before .before .before .before .args in
     let u = c .before .before .before .before .before .before .before .before .before .before .before .before .before .before .before .count-up in

@@ -3,16 +3,16 @@ use Prim.Native.Nat.{ℕ}
 use mathlib.Core.Path.{_≡_}
 use mathlib.Core.List.{List}
 use lib.Ieee.{Float}
-use Rattle.builder.specs.declared.Built.{Built}
+use Rattle.builder.specs.Reply.{Reply}
 use Rattle.builder.specs.Build.{Outcome, outcome}
-use Rattle.pigeonmast.specs.Report.{build, buildAnswer, buildTold, buildReport}
+use Rattle.pigeonmast.specs.Report.{refusalNumber, build, buildTold, buildReport}
 use borrow.Author.Needs.{needs}
 use Rattle.pigeonmast.proofs.pigeonmast_build.Statement.{statement}
 use Rattle.pigeonmast.proofs.pigeonmast_build.Tie as tie
 
 -- the report of an outcome, by its parts
-reported : (r : Built) (i : List ℕ) (b : List Float) (l : List ℕ) (o : Outcome) (n : ℕ) (t : List ℕ)
-    → outcome r i b l ≡ o → n ≡ buildAnswer r → t ≡ buildTold r → build n t i b l ≡ buildReport o
+reported : (r : Reply) (i : List ℕ) (b : List Float) (l : List ℕ) (o : Outcome) (n : ℕ) (t : List ℕ)
+    → outcome r i b l ≡ o → n ≡ refusalNumber (r .refusal) → t ≡ buildTold r → build n t i b l ≡ buildReport o
 unfolding buildReport
 reported r i b l o n t e p q = rw (← e, p, q)
 

@@ -1,18 +1,18 @@
 -- The outcome of `refill_normals`, told part by part. Assumes nothing.
 use Prim.Native.Nat.{ℕ}
 use mathlib.Core.Path.{_≡_}
-use mathlib.Core.List.{List}
+use mathlib.Core.List.{List, [], _∷_}
 use lib.Ieee.{Float}
-use Rattle.triangle.specs.declared.normals.Refill.{Refill}
+use Rattle.lent.specs.Ladder.{Refusal}
 use Rattle.triangle.specs.Refilled.{Outcome, outcome}
-use Rattle.pigeonmast.specs.Report.{normals, normalsAnswer, normalsTold, normalsReport}
+use Rattle.pigeonmast.specs.Report.{refusalNumber, refusalAt, normals, normalsReport}
 use borrow.Author.Needs.{needs}
 use Rattle.pigeonmast.proofs.pigeonmast_normals.Statement.{statement}
 use Rattle.pigeonmast.proofs.pigeonmast_normals.Tie as tie
 
 -- the report of an outcome, by its parts
-reported : (r : Refill) (mesh : List Float) (o : Outcome) (n : ℕ) (told : List ℕ)
-    → outcome r mesh ≡ o → n ≡ normalsAnswer r → told ≡ normalsTold r → normals n told mesh ≡ normalsReport o
+reported : (r : Refusal) (mesh : List Float) (o : Outcome) (n : ℕ) (told : List ℕ)
+    → outcome r mesh ≡ o → n ≡ refusalNumber r → told ≡ refusalAt r ∷ [] → normals n told mesh ≡ normalsReport o
 unfolding normalsReport
 reported r mesh o n told e p q = rw (← e, p, q)
 

@@ -1,18 +1,18 @@
 -- The outcome of `sky`, told part by part. Assumes nothing.
 use Prim.Native.Nat.{ℕ}
 use mathlib.Core.Path.{_≡_}
-use mathlib.Core.List.{List}
+use mathlib.Core.List.{List, [], _∷_}
 use lib.Ieee.{Float}
-use Rattle.sky.specs.declared.Filled.{Filled}
+use Rattle.lent.specs.Ladder.{Refusal}
 use Rattle.sky.specs.Sky.{Filling, filling}
-use Rattle.pigeonmast.specs.Report.{sky, skyAnswer, skyAt, skyReport}
+use Rattle.pigeonmast.specs.Report.{refusalNumber, refusalAt, sky, skyReport}
 use borrow.Author.Needs.{needs}
 use Rattle.pigeonmast.proofs.pigeonmast_sky.Statement.{statement}
 use Rattle.pigeonmast.proofs.pigeonmast_sky.Tie as tie
 
 -- the report of an outcome, by its parts
-reported : (r : Filled) (times : List Float) (told : List ℕ) (o : Filling) (n : ℕ) (at : List ℕ)
-    → filling r times told ≡ o → n ≡ skyAnswer r → at ≡ skyAt r → sky n at times told ≡ skyReport o
+reported : (r : Refusal) (times : List Float) (told : List ℕ) (o : Filling) (n : ℕ) (at : List ℕ)
+    → filling r times told ≡ o → n ≡ refusalNumber r → at ≡ refusalAt r ∷ [] → sky n at times told ≡ skyReport o
 unfolding skyReport
 reported r times told o n at e p q = rw (← e, p, q)
 

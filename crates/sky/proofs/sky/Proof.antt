@@ -2,25 +2,25 @@
 use mathlib.Core.Path.{refl}
 use borrow.Author.Needs.{needs}
 use Rattle.lent.proofs.Ladder.{ends, goes, stops, serves, agree, differ, below, not-below}
-use Rattle.sky.specs.Sky.{sky}
+use Rattle.sky.specs.Sky.{skyRefusal, sky}
 use Rattle.sky.proofs.Room.{filled-is}
 use Rattle.sky.proofs.sky.Statement.{statement}
 use Rattle.sky.proofs.sky.Tie as tie
 
 returns : tie.Need-returns
-unfolding sky
+unfolding sky skyRefusal
 returns c = ends (stops (differ (c .if1 .taken)) refl)
 
 returns-2 : tie.Need-returns-2
-unfolding sky
+unfolding sky skyRefusal
 returns-2 c = ends (goes (agree (c .before .if1 .left)) (stops (below (c .if2 .taken)) refl))
 
 returns-3 : tie.Need-returns-3
-unfolding sky
+unfolding sky skyRefusal
 returns-3 c = ends (goes (agree (c .before .before .if1 .left)) (goes (not-below (c .before .if2 .left)) (stops (differ (c .if3 .taken)) refl)))
 
 returns-4 : tie.Need-returns-4
-unfolding sky
+unfolding sky skyRefusal
 returns-4 c =
     let m = c .before .before in
     ends (goes (agree (m .before .if1 .left)) (goes (not-below (m .if2 .left)) (goes (agree (c .before .if3 .left)) (stops (below (c .if4 .taken)) refl))))
@@ -29,7 +29,7 @@ mul-if5 : tie.Need-mul-if5
 mul-if5 c = search needs
 
 returns-5 : tie.Need-returns-5
-unfolding sky
+unfolding sky skyRefusal
 returns-5 c =
     let r = c .before .before in
     let m = r .before in
@@ -47,7 +47,7 @@ same-length-2 : tie.Need-same-length-2
 same-length-2 c = c .before .before .before .before .fill .kept .1 .1 .1 .1 .1 .1 .1 .0
 
 returns-6 : tie.Need-returns-6
-unfolding sky
+unfolding sky skyRefusal
 returns-6 c =
     let f = c .before .before .before .before in
     let t = f .before .before .before in
