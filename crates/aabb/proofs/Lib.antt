@@ -1,7 +1,7 @@
 pub mod Tests
 pub mod Axis
-pub mod Limits
-pub mod Axes
+mod Limits
+mod Axes
 pub mod Inside
 pub mod Running
 pub mod Holds

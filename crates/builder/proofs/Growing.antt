@@ -20,7 +20,7 @@ use Rattle.builder.specs.declared.division.Made.the-variants.{Deep, Next
 use Rattle.builder.specs.declared.split.SplitDecision.{SplitDecision}
 use Rattle.builder.specs.declared.split.SplitDecision.the-variants.{MakeLeaf, Split}
 use Rattle.builder.specs.Choice.{bestSplit}
-use Rattle.builder.specs.Fallback.{ahead, ordered, separated, settled}
+use Rattle.builder.specs.Fallback.{sortsBefore, ordered, separated, settled}
 use Rattle.builder.specs.Layout.{Divided, Laid, boxPut, boxesOf, linkPut, linksOf}
 use Rattle.builder.specs.Partition.{Parted, parted, parts}
 use Rattle.builder.specs.Range.{centroidBox, nodeBox}
@@ -35,7 +35,7 @@ use Rattle.builder.proofs.Choosing.{splits-four as not-few}
 -- ---- the fallback order
 ordered-length : (m : List Float) (a : ℕ) (xs : List ℕ) → length (ordered m a xs) ≡ length xs
 unfolding ordered
-ordered-length m a xs = sorted-length (ahead (centroidAt m a)) (linear-ahead (centroidAt m a)) xs
+ordered-length m a xs = sorted-length (sortsBefore (centroidAt m a)) (linear-ahead (centroidAt m a)) xs
 
 -- ---- parts of a range
 -- ---- the split

@@ -10,7 +10,7 @@ use lib.ListN.{length, getD, set, take, drop, length-set, length-drop, length-ap
 use lib.Seq.{getD-set-same, getD-set-other, getD-take, getD-drop, length-take-le, getD-append-add}
 use Rattle.float.proofs.Cases.{low-or-high, same?}
 use Rattle.lent.specs.Permutation.{Perm, occ}
-use Rattle.builder.specs.Heap.{Greater, HeapFrom, parent}
+use Rattle.builder.specs.inner.Heap.{Greater, HeapFrom, parent}
 use Rattle.builder.specs.Partition.{swapped}
 use Rattle.builder.proofs.Linear.{Linear}
 use Rattle.builder.proofs.Parting.{length-swap}

@@ -1,22 +1,22 @@
-pub mod Passes
-pub mod Halves
-pub mod Filling
-pub mod Lanes
-pub mod Three
-pub mod Choosing
-pub mod Sweeping
-pub mod Parting
-pub mod Linear
-pub mod Sorting
-pub mod Heaps
-pub mod Growing
-pub mod Fills
-pub mod Whole
-pub mod Rest
-pub mod Enclosing
-pub mod InOrder
-pub mod Placing
-pub mod Trees
-pub mod Vertices
+mod RangePasses
+mod Halves
+mod BinsFilled
+mod Lanes
+mod ThreeAxes
+mod Choosing
+mod Sweeping
+mod Parting
+mod Linear
+mod Sorting
+mod Heaps
+mod Growing
+pub mod StartLoops
+mod Returns
+mod RestKept
+mod Enclosing
+mod InOrder
+mod Placing
+mod Trees
+mod Vertices
 pub mod Successes
 pub mod Depth

@@ -9,7 +9,7 @@ use borrow.Author.Tests.{ltb-true, ltb-false, le-ltb}
 use Rattle.float.specs.Number.{nought, real}
 use Rattle.float.specs.Total.{totalLess}
 use Rattle.float.proofs.Total.{Weak, weak-lex, weak-total, lex-false, total-gt, total-level, total-lt}
-use Rattle.builder.specs.Fallback.{underAt, ahead}
+use Rattle.builder.specs.Fallback.{underAt, sortsBefore}
 
 weak-at : (at : ℕ → Float) → Weak (underAt at)
 unfolding underAt
@@ -27,8 +27,8 @@ pub record Linear (less : ℕ → ℕ → Bool) : Type 0 where
   pub turn : (x y : ℕ) → less x y ≡ true → less y x ≡ false
   pub same : (x y : ℕ) → less x y ≡ false → less y x ≡ false → x ≡ y
 
-pub linear-ahead : (at : ℕ → Float) → Linear (ahead at)
-unfolding ahead
+pub linear-ahead : (at : ℕ → Float) → Linear (sortsBefore at)
+unfolding sortsBefore
 linear-ahead at = record {
   chain = weak-lex (underAt at) ltb (weak-at at) weak-ltb .chain;
   turn = weak-lex (underAt at) ltb (weak-at at) weak-ltb .turn;

@@ -10,7 +10,7 @@ use lib.ListN.{length, getD, length-set}
 use lib.Ieee.{Float, lt}
 use Rattle.triangle.specs.Mesh.{centroidAt}
 use Rattle.triangle.proofs.Admitting.{one-more}
-use Rattle.builder.specs.Partition.{Parted, lower, moves, parted, parts, swapped}
+use Rattle.builder.specs.Partition.{Parted, keepsLeft, moves, parted, parts, swapped}
 
 -- ---- an exchange
 pub length-swap : (xs : List ℕ) (a b : ℕ) → length (swapped xs a b) ≡ length xs
@@ -68,17 +68,17 @@ moves-at keep (suc k) l xs =
 
 pub parted-length : (m : List Float) (a : ℕ) (p : Float) (xs : List ℕ) → length (parted m a p xs .ids) ≡ length xs
 unfolding parted
-parted-length m a p xs = moves-length (lower m a p) (length xs) 0 xs
+parted-length m a p xs = moves-length (keepsLeft m a p) (length xs) 0 xs
 
 pub parted-at : (m : List Float) (a : ℕ) (p : Float) (xs : List ℕ) → parted m a p xs .at ≤ length xs
 unfolding parted
-parted-at m a p xs = omega (arith, moves-at (lower m a p) (length xs) 0 xs)
+parted-at m a p xs = omega (arith, moves-at (keepsLeft m a p) (length xs) 0 xs)
 
 -- ---- a turn of each loop
-pub lower-is : (m : List Float) (a : ℕ) (p : Float) (i k : ℕ) (r : Float) (t : Bool) → k ≡ i → r ≡ centroidAt m a k → lt r p ≡ t → lower m a p i ≡ t
-unfolding lower
+pub lower-is : (m : List Float) (a : ℕ) (p : Float) (i k : ℕ) (r : Float) (t : Bool) → k ≡ i → r ≡ centroidAt m a k → lt r p ≡ t → keepsLeft m a p i ≡ t
+unfolding keepsLeft
 lower-is m a p i k r t e f g = cc
 
-pub moves-start : (m : List Float) (a : ℕ) (p : Float) (xs : List ℕ) → moves (lower m a p) (length xs - 0) 0 xs ≡ parted m a p xs
+pub moves-start : (m : List Float) (a : ℕ) (p : Float) (xs : List ℕ) → moves (keepsLeft m a p) (length xs - 0) 0 xs ≡ parted m a p xs
 unfolding parted
-moves-start m a p xs = ap (λ (n : ℕ). moves (lower m a p) n 0 xs) (sub-zero (length xs))
+moves-start m a p xs = ap (λ (n : ℕ). moves (keepsLeft m a p) n 0 xs) (sub-zero (length xs))

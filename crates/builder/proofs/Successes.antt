@@ -32,10 +32,10 @@ use Rattle.tree.specs.Accepted.{Accepted}
 use Rattle.tree.proofs.Fitted.{fitted}
 use Rattle.builder.specs.Tree.{Grown, grow}
 use Rattle.builder.proofs.Enclosing.{Admitted}
-use Rattle.builder.proofs.Fills.{room-is}
+use Rattle.builder.proofs.StartLoops.{room-is}
 use Rattle.lent.proofs.Permutation.{occ-at, up-below, up-length}
 use Rattle.builder.proofs.Placing.{Placed, boxes-length, held, links-length, child-of-one, root-of-none, placed, placed-same, same-numbers}
-use Rattle.builder.proofs.Rest.{boxes-rest, links-rest}
+use Rattle.builder.proofs.RestKept.{boxes-rest, links-rest}
 use Rattle.builder.proofs.Trees.{Fine, Of-some, grown-fine}
 use Rattle.builder.proofs.Vertices.{Fitting, grown-fitting}
 use Rattle.builder.proofs.InOrder.{inside, runs-held}

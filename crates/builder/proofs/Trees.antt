@@ -15,11 +15,11 @@ use Rattle.aabb.proofs.Holds.{bounded-usable}
 use Rattle.triangle.specs.Mesh.{centroidAt}
 use Rattle.builder.specs.declared.split.SplitDecision.{SplitDecision}
 use Rattle.builder.specs.declared.split.SplitDecision.the-variants.{MakeLeaf, Split}
-use Rattle.builder.specs.Fallback.{ahead, ordered, separated}
+use Rattle.builder.specs.Fallback.{sortsBefore, ordered, separated}
 use Rattle.lent.specs.Permutation.{Perm, occ}
 use Rattle.tree.specs.Holds.{Inside, Nested, Finite, Occupied}
 use Rattle.builder.specs.Runs.{Runs}
-use Rattle.builder.specs.Partition.{Parted, lower, moves, parted, parts, swapped}
+use Rattle.builder.specs.Partition.{Parted, keepsLeft, moves, parted, parts, swapped}
 use Rattle.builder.specs.Range.{nodeBox}
 use Rattle.tree.specs.Tree.{Tree, below, boxOf, depth, internal, leaf}
 use Rattle.builder.specs.Tree.{Grown, decision, grow, grownAs, joined}
@@ -40,11 +40,11 @@ moves-same keep (suc k) l xs h =
 
 parted-same : (m : List Float) (a : ℕ) (p : Float) (xs : List ℕ) → Perm (parted m a p xs .ids) xs
 unfolding parted
-parted-same m a p xs = moves-same (lower m a p) (length xs) 0 xs (omega arith)
+parted-same m a p xs = moves-same (keepsLeft m a p) (length xs) 0 xs (omega arith)
 
 ordered-same : (m : List Float) (a : ℕ) (xs : List ℕ) → Perm (ordered m a xs) xs
 unfolding ordered
-ordered-same m a xs = sorted-occ (ahead (centroidAt m a)) (linear-ahead (centroidAt m a)) xs
+ordered-same m a xs = sorted-occ (sortsBefore (centroidAt m a)) (linear-ahead (centroidAt m a)) xs
 
 separated-same : (m : List Float) (a : ℕ) (p : Float) (ids : List ℕ) → Perm (separated m a p ids .ids) ids
 unfolding separated

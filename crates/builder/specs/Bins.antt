@@ -33,8 +33,8 @@ binOf zero x = 0
 binOf (suc k) x = cond (le (whole (suc k)) x) (suc k) (binOf k x)
 
 -- Rule S4: the bin of triangle i, by how many bins its centroid is from min
-unfoldable pub place : List Float → ℕ → Float → Float → ℕ → ℕ
-place mesh axis min scale i = binOf 15 (mul binary64 (sub binary64 (centroidAt mesh axis i) min) scale)
+unfoldable pub binFor : List Float → ℕ → Float → Float → ℕ → ℕ
+binFor mesh axis min scale i = binOf 15 (mul binary64 (sub binary64 (centroidAt mesh axis i) min) scale)
 
 -- what an array of bins reads as past its end, which no definition here looks at
 abbrev pub blank : Bin
@@ -48,7 +48,7 @@ withOne bins k b = set bins k (withBox (getD bins k blank) b)
 unfoldable pub filled : List Float → ℕ → Float → Float → List Bin → List ℕ → List Bin
 filled mesh axis min scale bins [] = bins
 filled mesh axis min scale bins (i ∷ is) =
-    filled mesh axis min scale (withOne bins (place mesh axis min scale i) (boundsAt mesh i)) is
+    filled mesh axis min scale (withOne bins (binFor mesh axis min scale i) (boundsAt mesh i)) is
 
 -- Rule S6: the bins to the right of a boundary, joined from the right end
 unfoldable pub suffixOf : List Bin → Bin

@@ -14,8 +14,8 @@ unfoldable pub underAt : (ℕ → Float) → ℕ → ℕ → Bool
 underAt at a b = totalLess (at a) (at b)
 
 -- Rule C5: by what `at` has, and of equals the lower number first
-unfoldable pub ahead : (ℕ → Float) → ℕ → ℕ → Bool
-ahead at a b = lex (underAt at) ltb a b
+unfoldable pub sortsBefore : (ℕ → Float) → ℕ → ℕ → Bool
+sortsBefore at a b = lex (underAt at) ltb a b
 
 unfoldable pub insert : (ℕ → ℕ → Bool) → ℕ → List ℕ → List ℕ
 insert less x [] = x ∷ []
@@ -26,7 +26,7 @@ sorted less [] = []
 sorted less (x ∷ xs) = insert less x (sorted less xs)
 
 unfoldable pub ordered : List Float → ℕ → List ℕ → List ℕ
-ordered mesh axis range = sorted (ahead (centroidAt mesh axis)) range
+ordered mesh axis range = sorted (sortsBefore (centroidAt mesh axis)) range
 
 -- Rule C5: where all came to one side, the range in order, cut in the middle
 unfoldable pub settled : List Float → ℕ → Parted → Parted

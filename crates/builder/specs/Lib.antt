@@ -9,5 +9,4 @@ pub mod Depth
 pub mod Layout
 pub mod Reply
 pub mod Build
-pub mod Heap
 pub mod Runs

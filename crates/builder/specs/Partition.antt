@@ -24,8 +24,8 @@ moves keep zero left xs = parts xs left
 moves keep (suc k) left xs = elim (keep (getD xs left 0)) [ true ↦ moves keep k (suc left) xs | false ↦ moves keep k left (swapped xs left (left + k)) ]
 
 -- Rule C4: it is kept on the left
-unfoldable pub lower : List Float → ℕ → Float → ℕ → Bool
-lower mesh axis position i = lt (centroidAt mesh axis i) position
+unfoldable pub keepsLeft : List Float → ℕ → Float → ℕ → Bool
+keepsLeft mesh axis position i = lt (centroidAt mesh axis i) position
 
 unfoldable pub parted : List Float → ℕ → Float → List ℕ → Parted
-parted mesh axis position range = moves (lower mesh axis position) (length range) 0 range
+parted mesh axis position range = moves (keepsLeft mesh axis position) (length range) 0 range

@@ -7,9 +7,9 @@ ghost use lib.ListN.{length, getD};
 ghost use lib.Ieee.{Float};
 ghost use Rattle.triangle.specs.Mesh.{centroidAt};
 ghost use Rattle.lent.specs.Limits.{most-triangles};
-ghost use Rattle.builder.specs.Fallback.{ahead, ordered};
+ghost use Rattle.builder.specs.Fallback.{sortsBefore, ordered};
 ghost use Rattle.lent.specs.Permutation.{Perm};
-ghost use Rattle.builder.specs.Heap.{HeapFrom, Greater};
+ghost use Rattle.builder.specs.inner.Heap.{HeapFrom, Greater};
 
 // A triangle number, and the centroid of that triangle on the axis of the order: worked out once for several comparisons.
 pub struct Ranked {
@@ -36,7 +36,7 @@ pub struct Child {
 
 // Whether triangle a comes before triangle b. Equal numbers but zeros, most of those that are put in order, and numbers that differ are told by comparisons; `total_cmp` for the rest.
 pub fn is_ahead(a: Ranked, b: Ranked) -> bool
-    ensures { λ r. ⌜ ((at : ℕ → Float) → a .centroid ≡ at (a .number) → b .centroid ≡ at (b .number) → r ≡ ahead at (a .number) (b .number)) ⌝ }
+    ensures { λ r. ⌜ ((at : ℕ → Float) → a .centroid ≡ at (a .number) → b .centroid ≡ at (b .number) → r ≡ sortsBefore at (a .number) (b .number)) ⌝ }
 {
     let x = a.centroid;
     let y = b.centroid;
@@ -63,7 +63,7 @@ pub fn is_ahead(a: Ranked, b: Ranked) -> bool
 // The greater child of place i of the heap.
 pub fn greater_child(triangles: &[f64], index: &[u32], axis: usize, i: usize) -> Child
     requires { ⌜ 2 * i + 1 < length (now index) ⌝ }
-    ensures { λ r. ⌜ Greater (ahead (centroidAt (now (triangles .entry)) axis)) (now (index .entry)) i (r .place) ⌝ }
+    ensures { λ r. ⌜ Greater (sortsBefore (centroidAt (now (triangles .entry)) axis)) (now (index .entry)) i (r .place) ⌝ }
     ensures { λ r. ⌜ (r .own .number ≡ getD (now (index .entry)) (r .place) 0) × (r .own .centroid ≡ centroidAt (now (triangles .entry)) axis (r .own .number)) ⌝ }
 {
     let l = 2 * i + 1;
@@ -91,9 +91,9 @@ pub fn greater_child(triangles: &[f64], index: &[u32], axis: usize, i: usize) ->
 // The number at `at` goes down to its place: what was a heap below `at` is one from `at` on.
 pub fn sift(triangles: &[f64], index: &mut [u32], axis: usize, at: usize)
     requires { ⌜ (length (now index) ≤ most-triangles) × (at < length (now index)) ⌝ }
-    requires { ⌜ HeapFrom (ahead (centroidAt (now triangles) axis)) (at + 1) (now index) ⌝ }
+    requires { ⌜ HeapFrom (sortsBefore (centroidAt (now triangles) axis)) (at + 1) (now index) ⌝ }
     ensures { λ _. ⌜ Perm (now (index .exit)) (now (index .entry)) ⌝ }
-    ensures { λ _. ⌜ HeapFrom (ahead (centroidAt (now (triangles .entry)) axis)) at (now (index .exit)) ⌝ }
+    ensures { λ _. ⌜ HeapFrom (sortsBefore (centroidAt (now (triangles .entry)) axis)) at (now (index .exit)) ⌝ }
 {
     let own = Ranked::of(triangles, axis, index[at]);
     let mut i = at;

@@ -1,4 +1,4 @@
-pub mod Same
+mod Same
 pub mod Probes
 pub mod Answers
 pub mod Fixed

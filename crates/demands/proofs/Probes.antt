@@ -14,10 +14,10 @@ use Rattle.aabb.specs.Slab.{sighted, aimed, sightOn, reach, first, second, para
 use Rattle.triangle.specs.Mesh.{triangleAt, cornersOf, boundsOf, centroidOf, admittedTriangle, boundsAt, centroidAt, firstRefused, unadmitted}
 use Rattle.triangle.specs.Meeting.{edge1, edge2, pvec, det, invDet, tvec, qvec, uOf, vOf, tOf, judged, distanceTo, distance, faces, hitAt}
 use Rattle.builder.specs.Range.{boxFrom, nodeBox, centroidsFrom, centroidBox}
-use Rattle.builder.specs.Bins.{noBin, withBox, joinBins, binOf, place, filled, suffixOf}
+use Rattle.builder.specs.Bins.{noBin, withBox, joinBins, binOf, binFor, filled, suffixOf}
 use Rattle.builder.specs.Choice.{weight, costOf, betterOf, sweepFrom, tryAxis, leafCost, bestOfAxes, chosen, bestSplit}
-use Rattle.builder.specs.Partition.{moves, lower, parted}
-use Rattle.builder.specs.Fallback.{underAt, ahead as builder-ahead, insert, sorted, ordered, settled, separated}
+use Rattle.builder.specs.Partition.{moves, keepsLeft, parted}
+use Rattle.builder.specs.Fallback.{underAt, sortsBefore, insert, sorted, ordered, settled, separated}
 use Rattle.builder.specs.Tree.{joined, decision, leafOf, grow}
 use Rattle.builder.specs.Layout.{boxPut, linkPut, boxesOf, linksOf}
 use Rattle.lent.specs.Permutation.{upTo}
@@ -54,7 +54,7 @@ claims (p ∷ ps) h = (claim p (and-l (holds p) (allHold ps) h), claims ps (and-
 
 -- the test, computed over the whole table
 table : T (allHold probes)
-unfolding probes handedAs handed builtWhole rootBox lesser greater plus aabb-minus negated scaled divided least greatest dot minor cross along within allWithin allAtMost allEqual vectorAt pointAt admittedRay emptyBox grown union ofThree extent areaOf area bounded isEmpty usable boxAt sighted aimed sightOn reach first second parallel unlessLater clipped narrowed andThen ahead onAxis throughFrom through slab triangleAt cornersOf boundsOf centroidOf admittedTriangle boundsAt centroidAt edge1 edge2 pvec det invDet tvec qvec uOf vOf tOf judged distanceTo distance faces hitAt boxFrom nodeBox centroidsFrom centroidBox noBin withBox joinBins binOf place filled suffixOf weight costOf betterOf sweepFrom tryAxis leafCost bestOfAxes chosen bestSplit moves lower parted underAt builder-ahead insert sorted ordered settled separated joined decision leafOf grow put boxPut linkPut boxesOf linksOf upTo room firstRefused unadmitted finished built linked nodeAt sound leftOf rightOf boxed replaces nearer after tested scan openLeaf openInternal opened scene-judged visit hitOf over run misfit walk unless firstFailed answered isNan lt le eq add sub mul div neg ofBits ofInt sum round units odd size span climb trailingZeros
+unfolding probes handedAs handed builtWhole rootBox lesser greater plus aabb-minus negated scaled divided least greatest dot minor cross along within allWithin allAtMost allEqual vectorAt pointAt admittedRay emptyBox grown union ofThree extent areaOf area bounded isEmpty usable boxAt sighted aimed sightOn reach first second parallel unlessLater clipped narrowed andThen ahead onAxis throughFrom through slab triangleAt cornersOf boundsOf centroidOf admittedTriangle boundsAt centroidAt edge1 edge2 pvec det invDet tvec qvec uOf vOf tOf judged distanceTo distance faces hitAt boxFrom nodeBox centroidsFrom centroidBox noBin withBox joinBins binOf binFor filled suffixOf weight costOf betterOf sweepFrom tryAxis leafCost bestOfAxes chosen bestSplit moves keepsLeft parted underAt sortsBefore insert sorted ordered settled separated joined decision leafOf grow put boxPut linkPut boxesOf linksOf upTo room firstRefused unadmitted finished built linked nodeAt sound leftOf rightOf boxed replaces nearer after tested scan openLeaf openInternal opened scene-judged visit hitOf over run misfit walk unless firstFailed answered isNan lt le eq add sub mul div neg ofBits ofInt sum round units odd size span climb trailingZeros
 table = tt
 
 -- P1 to P12

@@ -33,9 +33,9 @@ use Rattle.tree.specs.Node.{nodeOf}
 use Rattle.tree.specs.Accepted.{Walkable}
 use Rattle.demands.specs.Reached.{entered, reached, nearest, foundIn}
 use Rattle.tree.specs.Leaves.{rangeOf}
-use Rattle.walk.proofs.Judged.{both-put}
-use Rattle.walk.proofs.Going.{none-pending, one-left}
-use Rattle.walk.proofs.Entrance.{entered as walk-entered}
+use Rattle.walk.proofs.VisitEnds.{both-put}
+use Rattle.walk.proofs.LoopInvariant.{none-pending, one-left}
+use Rattle.walk.proofs.Entering.{entered as walk-entered}
 
 -- ---- counts
 range-length : (c p : ℕ) → length (rangeOf c p) ≡ c

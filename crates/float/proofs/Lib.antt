@@ -2,19 +2,19 @@ pub mod Cases
 pub mod Numbers
 pub mod Order
 pub mod Round
-pub mod Fraction
+mod Fraction
 pub mod Turned
 pub mod Monotone
 pub mod Bounds
 pub mod Pick
-pub mod Absolute
+mod Absolute
 pub mod Total
-pub mod Patterns
-pub mod RootWhole
-pub mod RootHalves
-pub mod RootScaled
-pub mod RootRead
-pub mod RootCases
+mod Patterns
+mod RootWhole
+mod RootHalves
+mod RootScaled
+mod RootRead
+mod RootCases
 pub mod RootNearest
 pub mod RootBounds
-pub mod RootRows
+mod RootRows

@@ -1,7 +1,7 @@
-pub mod Measuring
-pub mod Reading
+mod Measuring
+mod Reading
 pub mod Writing
-pub mod Places
-pub mod Lines
-pub mod Whole
+mod Places
+mod Lines
+mod SurveyEnds
 pub mod Fixed

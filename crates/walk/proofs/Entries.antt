@@ -19,7 +19,7 @@ use Rattle.walk.specs.declared.leaf.Verdict.{Verdict}
 use Rattle.walk.specs.declared.leaf.Verdict.the-variants.{Fit, Unfit}
 use Rattle.lent.specs.Ladder.{triangleCount}
 use Rattle.walk.specs.Walk.{after, tested, scan}
-use Rattle.walk.specs.State.{verdict, nearestOf}
+use Rattle.walk.specs.inner.State.{verdict, nearestOf}
 
 -- ---- the first pass
 pub record Judging (mesh : List Float) (index : List ℕ) (first count end place : ℕ) : Type 0 where

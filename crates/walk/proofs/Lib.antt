@@ -1,6 +1,6 @@
-pub mod Listed
-pub mod Entries
-pub mod Judged
-pub mod Kept
-pub mod Going
-pub mod Entrance
+mod PendingList
+mod Entries
+pub mod VisitEnds
+mod Visits
+pub mod LoopInvariant
+pub mod Entering

@@ -1,3 +1,3 @@
 pub mod Answer
 pub mod Walk
-pub mod State
+pub mod inner

@@ -10,7 +10,7 @@ ghost use mathlib.Core.Path.{_≡_};
 ghost use Prim.Native.Nat.{_+_, _<_, _≤_, _^_};
 ghost use lib.ListN.{length};
 ghost use Rattle.walk.specs.Walk.{scan, openLeaf};
-ghost use Rattle.walk.specs.State.{verdict, nearestOf};
+ghost use Rattle.walk.specs.inner.State.{verdict, nearestOf};
 
 // Whether a walk can test every entry of a leaf.
 pub enum Verdict {

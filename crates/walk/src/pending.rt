@@ -4,7 +4,7 @@ ghost use mathlib.Core.List.{[], _∷_};
 ghost use Prim.Native.Nat.{_+_, _-_, _<_};
 ghost use lib.ListN.{length};
 ghost use Rattle.lent.specs.Limits.{most-pending};
-ghost use Rattle.walk.specs.State.{pending, besides};
+ghost use Rattle.walk.specs.inner.State.{pending, besides};
 
 // The first `len` of the numbers are pending; the last of them is taken next.
 pub struct Pending {

@@ -11,7 +11,7 @@ ghost use Rattle.aabb.specs.Slab.{aimed};
 ghost use Rattle.tree.specs.Lent.{lent};
 ghost use Rattle.lent.specs.Limits.{most-nodes, most-pending};
 ghost use Rattle.walk.specs.Walk.{openInternal, visit};
-ghost use Rattle.walk.specs.State.{Ready};
+ghost use Rattle.walk.specs.inner.State.{Ready};
 
 // An internal node whose box is passed, with `besides` pending besides. Right is left + 1: where it is a node, so is left.
 pub fn open_internal(nodes: usize, i: u32, x: Node, besides: usize) -> Turn

@@ -15,7 +15,7 @@ use Rattle.lent.specs.Limits.{deepest}
 use Rattle.builder.specs.Tree.{grow}
 use Rattle.builder.proofs.Heaps.{lent}
 use Rattle.lent.proofs.Permutation.{up-below}
-use Rattle.builder.proofs.Whole.{c-length, front-length-is, lent-again, made-deep, made-done, rest-again, twice-length}
+use Rattle.builder.proofs.Returns.{c-length, front-length-is, lent-again, made-deep, made-done, rest-again, twice-length}
 use borrow.Author.Needs.{needs}
 use Rattle.builder.proofs.make.Statement.{statement}
 use Rattle.builder.proofs.make.Tie as tie

@@ -2,7 +2,7 @@
 use native.Mathlib.Omega.{arith}
 use Rattle.report.specs.Survey.{builtOf}
 use Rattle.report.proofs.Writing.{and-then, wrote-as}
-use Rattle.report.proofs.Whole.{handed-is, refused-report, built-report}
+use Rattle.report.proofs.SurveyEnds.{handed-is, refused-report, built-report}
 use borrow.Author.Needs.{needs}
 use Rattle.report.proofs.report.Statement.{statement}
 use Rattle.report.proofs.report.Tie as tie

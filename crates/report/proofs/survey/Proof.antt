@@ -3,7 +3,7 @@ use mathlib.Core.Path.{sym, _∙_}
 use native.Mathlib.Omega.{arith}
 use Rattle.report.proofs.Measuring.{fits}
 use Rattle.report.proofs.Writing.{wrote-as, wrote-within}
-use Rattle.report.proofs.Whole.{mesh-read, mesh-within, mesh-is, bad-report, good-report}
+use Rattle.report.proofs.SurveyEnds.{mesh-read, mesh-within, mesh-is, bad-report, good-report}
 use borrow.Author.Needs.{needs}
 use Rattle.report.proofs.survey.Statement.{statement}
 use Rattle.report.proofs.survey.Tie as tie

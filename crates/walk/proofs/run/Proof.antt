@@ -9,9 +9,9 @@ use Rattle.tree.specs.Lent.{Lent, lent, nodeCount}
 use Rattle.lent.specs.Limits.{most-pending}
 use Rattle.walk.specs.Answer.{told}
 use Rattle.walk.specs.Walk.{visit}
-use Rattle.walk.proofs.Judged.{its-ray, its-own}
-use Rattle.walk.proofs.Going.{Going, begun, ended, lastOf, all-below, spent, Counting, one-box, ready, stopped, missed, down-box, down, open-room, opens}
-use Rattle.walk.proofs.Listed.{fewer, opened-last, root-last}
+use Rattle.walk.proofs.VisitEnds.{its-ray, its-own}
+use Rattle.walk.proofs.LoopInvariant.{Going, begun, ended, lastOf, all-below, spent, Counting, one-box, ready, stopped, missed, down-box, down, open-room, opens}
+use Rattle.walk.proofs.PendingList.{fewer, opened-last, root-last}
 use Rattle.walk.proofs.run.Statement.{statement}
 use Rattle.walk.proofs.run.Tie as tie
 

@@ -6,9 +6,9 @@ use Rattle.triangle.specs.Mesh.{triangleAt}
 use Rattle.builder.specs.inner.Lanes.{Lanes}
 use Rattle.lent.specs.Limits.{most-triangles}
 use Rattle.builder.proofs.Lanes.{lanes-up}
-use Rattle.builder.proofs.Passes.{bounds-by, centroid-by}
+use Rattle.builder.proofs.RangePasses.{bounds-by, centroid-by}
 use Rattle.lent.proofs.Permutation.{occ-at}
-use Rattle.builder.proofs.Three.{Ahead, ahead-again, ahead-end, ahead-start}
+use Rattle.builder.proofs.ThreeAxes.{Ahead, ahead-again, ahead-end, ahead-start}
 use borrow.Author.Needs.{needs}
 use Rattle.builder.proofs.bins.fill.Statement.{statement}
 use Rattle.builder.proofs.bins.fill.Tie as tie

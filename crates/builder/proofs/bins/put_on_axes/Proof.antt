@@ -3,7 +3,7 @@ use Prim.Native.Nat.{_+_}
 use native.Mathlib.Omega.{arith}
 use Rattle.lent.specs.Limits.{most-triangles}
 use Rattle.builder.proofs.Lanes.{lanes-up}
-use Rattle.builder.proofs.Three.{one-more, one-on-axes, two-more}
+use Rattle.builder.proofs.ThreeAxes.{one-more, one-on-axes, two-more}
 use borrow.Author.Needs.{needs}
 use Rattle.builder.proofs.bins.put_on_axes.Statement.{statement}
 use Rattle.builder.proofs.bins.put_on_axes.Tie as tie

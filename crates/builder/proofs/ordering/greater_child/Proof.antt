@@ -1,7 +1,7 @@
 -- The greater of one or two children. Assumes nothing.
 use mathlib.Core.Path.{sym, _∙_}
 use Rattle.triangle.specs.Mesh.{centroidAt}
-use Rattle.builder.specs.Fallback.{ahead}
+use Rattle.builder.specs.Fallback.{sortsBefore}
 use Rattle.builder.proofs.Heaps.{left-child, only-child, right-child}
 use Rattle.builder.proofs.Linear.{linear-ahead}
 use borrow.Author.Needs.{needs}
@@ -30,7 +30,7 @@ returns : tie.Need-returns
 returns c =
     let a = c .before .before .before .before .before .args in
     let at = centroidAt (a .triangles .now) (a .axis) in
-    (only-child (ahead at) (linear-ahead at) (a .index .now) (a .i) (c .before .before .before .before .before .pre) (c .if1 .taken), c .before .of .ensures)
+    (only-child (sortsBefore at) (linear-ahead at) (a .index .now) (a .i) (c .before .before .before .before .before .pre) (c .if1 .taken), c .before .of .ensures)
 
 add-r : tie.Need-add-r
 add-r c = search needs
@@ -54,7 +54,7 @@ returns-2 c =
     let l = c .before .before .before .before .before .of .ensures in
     let r = c .before .before .of2 .ensures in
     let t = c .before .is-ahead .ensures at (l .1) (r .1) in
-    (right-child (ahead at) (linear-ahead at) (a .index .now) (a .i) (c .before .before .before .before .if1 .left) (rw (← l .0, ← r .0) (sym t ∙ c .if2 .taken)), r)
+    (right-child (sortsBefore at) (linear-ahead at) (a .index .now) (a .i) (c .before .before .before .before .if1 .left) (rw (← l .0, ← r .0) (sym t ∙ c .if2 .taken)), r)
 
 returns-3 : tie.Need-returns-3
 returns-3 c =
@@ -63,7 +63,7 @@ returns-3 c =
     let l = c .before .before .before .before .before .of .ensures in
     let r = c .before .before .of2 .ensures in
     let t = c .before .is-ahead .ensures at (l .1) (r .1) in
-    (left-child (ahead at) (linear-ahead at) (a .index .now) (a .i) (c .before .before .before .before .if1 .left) (rw (← l .0, ← r .0) (sym t ∙ c .if2 .left)), l)
+    (left-child (sortsBefore at) (linear-ahead at) (a .index .now) (a .i) (c .before .before .before .before .if1 .left) (rw (← l .0, ← r .0) (sym t ∙ c .if2 .left)), l)
 
 pub greater-child-spec : {M : Type 1} → statement M
 greater-child-spec =

@@ -5,7 +5,7 @@ use native.Mathlib.Omega.{arith}
 use mathlib.Core.List.{List}
 use lib.ListN.{length, getD}
 use Rattle.triangle.specs.Mesh.{centroidAt}
-use Rattle.builder.specs.Fallback.{ahead}
+use Rattle.builder.specs.Fallback.{sortsBefore}
 use Rattle.lent.specs.Permutation.{Perm, occ}
 use Rattle.builder.proofs.Heaps.{Nearly, nearly-next, nearly-none, nearly-start, nearly-stop, swap-second}
 use Rattle.builder.proofs.Linear.{linear-ahead}
@@ -17,7 +17,7 @@ use Rattle.builder.proofs.ordering.sift.Tie as tie
 
 abbrev Inv-loop : tie.InvT-loop
 Inv-loop triangles index₀ axis at own i₀ index i =
-    (length index ≡ length index₀) × Perm index index₀ × Nearly (ahead (centroidAt triangles axis)) (linear-ahead (centroidAt triangles axis)) at i index × (i < length index₀) × (own .number ≡ getD index i 0)
+    (length index ≡ length index₀) × Perm index index₀ × Nearly (sortsBefore (centroidAt triangles axis)) (linear-ahead (centroidAt triangles axis)) at i index × (i < length index₀) × (own .number ≡ getD index i 0)
 
 abbrev μ-loop : tie.MeasureT-loop
 μ-loop triangles index₀ axis at own i₀ index i = length index₀ - i
@@ -36,7 +36,7 @@ loop-holds c =
     let a = c .before .before .before .before .args in
     let at = centroidAt (a .triangles .now) (a .axis) in
     let p = c .before .before .before .before .pre in
-    (refl, λ v. refl, nearly-start (ahead at) (linear-ahead at) (a .at) (a .index .now) (p .1), p .0 .1, c .of .ensures .0)
+    (refl, λ v. refl, nearly-start (sortsBefore at) (linear-ahead at) (a .at) (a .index .now) (p .1), p .0 .1, c .of .ensures .0)
 
 mul-loop : tie.Need-mul-loop Inv-loop μ-loop
 mul-loop c = omega (arith, c .loop .inv .3, c .before .before .before .before .before .pre .0 .0)
@@ -52,7 +52,7 @@ is-ahead-requires c κs = search needs
 
 -- what `is_ahead` tells, of the numbers in the list
 told : (c : tie.After-is-ahead Inv-loop μ-loop)
-    → let a = c .before .before .before .before .before .before .before .before .before .args in let l = c .before .before .before .before .loop in c .is-ahead .result ≡ ahead (centroidAt (a .triangles .now) (a .axis)) (getD (l .index) (l .i) 0) (getD (l .index) (c .before .greater-child .result .place) 0)
+    → let a = c .before .before .before .before .before .before .before .before .before .args in let l = c .before .before .before .before .loop in c .is-ahead .result ≡ sortsBefore (centroidAt (a .triangles .now) (a .axis)) (getD (l .index) (l .i) 0) (getD (l .index) (c .before .greater-child .result .place) 0)
 told c =
     let a = c .before .before .before .before .before .before .before .before .before .args in
     let at = centroidAt (a .triangles .now) (a .axis) in
@@ -87,7 +87,7 @@ loop-again c =
     let hi : l .i < length (l .index) = omega (arith, c .before .before .before .before .before .before .before .before .loop-test .taken) in (
       ap length w ∙ length-swap (l .index) (l .i) g ∙ l .inv .0,
       λ v. ap (occ v) w ∙ perm-swap (l .index) (l .i) g hi s v ∙ l .inv .1 v,
-      subst⁻¹ (Nearly (ahead at) (linear-ahead at) (a .at) g) w (nearly-next (ahead at) (linear-ahead at) (a .at) (l .i) g (l .index) (l .inv .2) greater (sym (told (c .before .before .before .before .before)) ∙ c .before .before .before .before .if1 .taken)),
+      subst⁻¹ (Nearly (sortsBefore at) (linear-ahead at) (a .at) g) w (nearly-next (sortsBefore at) (linear-ahead at) (a .at) (l .i) g (l .index) (l .inv .2) greater (sym (told (c .before .before .before .before .before)) ∙ c .before .before .before .before .if1 .taken)),
       omega (arith, l .inv .0),
       l .inv .4 ∙ sym (ap (λ (xs : List ℕ). getD xs g 0) w ∙ swap-second (l .index) (l .i) g hi s (λ q. omega arith)),
     )
@@ -101,7 +101,7 @@ returns c =
     let at = centroidAt (a .triangles .now) (a .axis) in
     let l = c .before .before .before .before .before .loop in
     let g = c .before .before .greater-child in
-    (l .inv .1, nearly-stop (ahead at) (linear-ahead at) (a .at) (l .i) (g .result .place) (l .index) (l .inv .2) (g .ensures .0) (sym (told (c .before)) ∙ c .if1 .left))
+    (l .inv .1, nearly-stop (sortsBefore at) (linear-ahead at) (a .at) (l .i) (g .result .place) (l .index) (l .inv .2) (g .ensures .0) (sym (told (c .before)) ∙ c .if1 .left))
 
 same-length-2 : tie.Need-same-length-2 Inv-loop μ-loop
 same-length-2 c = search needs
@@ -111,7 +111,7 @@ returns-2 c =
     let a = c .before .before .before .before .before .before .args in
     let at = centroidAt (a .triangles .now) (a .axis) in
     let l = c .before .loop in
-    (l .inv .1, nearly-none (ahead at) (linear-ahead at) (a .at) (l .i) (l .index) (l .inv .2) (c .loop-test .left))
+    (l .inv .1, nearly-none (sortsBefore at) (linear-ahead at) (a .at) (l .i) (l .index) (l .inv .2) (c .loop-test .left))
 
 pub sift-spec : {M : Type 1} → statement M
 sift-spec =

@@ -4,14 +4,14 @@ use Prim.Native.Nat.{_-_, _≤_}
 use native.Mathlib.Omega.{arith}
 use mathlib.Core.Bool.{true, false}
 use lib.ListN.{length}
-use Rattle.builder.specs.Partition.{lower, moves, parted}
+use Rattle.builder.specs.Partition.{keepsLeft, moves, parted}
 use Rattle.builder.proofs.Parting.{length-swap, lower-is, moves-down, moves-end, moves-start, moves-up}
 use borrow.Author.Needs.{needs}
 use Rattle.builder.proofs.partition.partition.Statement.{statement}
 use Rattle.builder.proofs.partition.partition.Tie as tie
 
 abbrev Inv-loop : tie.InvT-loop
-Inv-loop triangles index₀ axis position left₀ right₀ index left right = (length index ≡ length index₀) × (moves (lower triangles axis position) (right - left) left index ≡ parted triangles axis position index₀) × (right ≤ length index)
+Inv-loop triangles index₀ axis position left₀ right₀ index left right = (length index ≡ length index₀) × (moves (keepsLeft triangles axis position) (right - left) left index ≡ parted triangles axis position index₀) × (right ≤ length index)
 
 abbrev μ-loop : tie.MeasureT-loop
 μ-loop triangles index₀ axis position left₀ right₀ index left right = right - left
@@ -39,7 +39,7 @@ loop-again c =
     let a = c .before .before .before .before .before .before .before .args in
     let l = c .before .before .before .before .loop in
     let keep = lower-is (a .triangles .now) (a .axis) (a .position) _ _ _ true refl (c .before .centroid-on .ensures) (c .if1 .taken) in
-    (l .inv .0, sym (moves-up (lower (a .triangles .now) (a .axis) (a .position)) (l .left) (l .right) (l .index) (c .before .before .before .loop-test .taken) keep) ∙ l .inv .1, l .inv .2)
+    (l .inv .0, sym (moves-up (keepsLeft (a .triangles .now) (a .axis) (a .position)) (l .left) (l .right) (l .index) (c .before .before .before .loop-test .taken) keep) ∙ l .inv .1, l .inv .2)
 
 sub-right : tie.Need-sub-right Inv-loop μ-loop
 sub-right c = omega (arith, c .before .before .before .loop-test .taken)
@@ -58,7 +58,7 @@ loop-again-2 c =
     let keep = lower-is (a .triangles .now) (a .axis) (a .position) _ _ _ false refl (c .before .before .before .before .before .centroid-on .ensures) (c .before .before .before .before .if1 .left) in
     let len = ap length s ∙ length-swap (l .index) (l .left) (l .right - 1) in (
       len ∙ l .inv .0,
-      ap (moves (lower (a .triangles .now) (a .axis) (a .position)) (l .right - 1 - l .left) (l .left)) s ∙ sym (moves-down (lower (a .triangles .now) (a .axis) (a .position)) (l .left) (l .right) (l .index) (c .before .before .before .before .before .before .before .loop-test .taken) keep) ∙ l .inv .1,
+      ap (moves (keepsLeft (a .triangles .now) (a .axis) (a .position)) (l .right - 1 - l .left) (l .left)) s ∙ sym (moves-down (keepsLeft (a .triangles .now) (a .axis) (a .position)) (l .left) (l .right) (l .index) (c .before .before .before .before .before .before .before .loop-test .taken) keep) ∙ l .inv .1,
       omega (arith, l .inv .2, len),
     )
 
@@ -69,7 +69,7 @@ returns : tie.Need-returns Inv-loop μ-loop
 returns c =
     let a = c .before .before .before .before .args in
     let l = c .before .loop in
-    sym (moves-end (lower (a .triangles .now) (a .axis) (a .position)) (l .left) (l .right) (l .index) (c .loop-test .left)) ∙ l .inv .1
+    sym (moves-end (keepsLeft (a .triangles .now) (a .axis) (a .position)) (l .left) (l .right) (l .index) (c .loop-test .left)) ∙ l .inv .1
 
 pub partition-spec : {M : Type 1} → statement M
 partition-spec =

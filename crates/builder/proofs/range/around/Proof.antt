@@ -7,7 +7,7 @@ use Rattle.triangle.specs.Mesh.{triangleAt}
 use Rattle.builder.specs.Range.{boxFrom, centroidBox, centroidsFrom, nodeBox}
 use Rattle.aabb.specs.Bounds.{Clear}
 use Rattle.aabb.proofs.Running.{clear-as, empty-clear, grown-by, union-by}
-use Rattle.builder.proofs.Passes.{bounds-by, box-again, box-end, box-start, centroid-by, centroids-again, centroids-end, centroids-start}
+use Rattle.builder.proofs.RangePasses.{bounds-by, box-again, box-end, box-start, centroid-by, centroids-again, centroids-end, centroids-start}
 use Rattle.lent.proofs.Permutation.{occ-at}
 use borrow.Author.Needs.{needs}
 use Rattle.builder.proofs.range.around.Statement.{statement}

@@ -2,7 +2,7 @@
 use mathlib.Core.Path.{_∙_, ap}
 use Rattle.aabb.specs.Vector.{along}
 use Rattle.triangle.specs.Mesh.{centroidAt, centroidOf, triangleAt}
-use Rattle.builder.proofs.Passes.{centroid-there}
+use Rattle.builder.proofs.RangePasses.{centroid-there}
 use borrow.Author.Needs.{needs}
 use Rattle.builder.proofs.range.centroid_on.Statement.{statement}
 use Rattle.builder.proofs.range.centroid_on.Tie as tie

@@ -1,6 +1,6 @@
 -- Each vertex is the one at its place. Assumes nothing.
 use Rattle.triangle.specs.Mesh.{triangleAt}
-use Rattle.builder.proofs.Passes.{corners-same}
+use Rattle.builder.proofs.RangePasses.{corners-same}
 use borrow.Author.Needs.{needs}
 use Rattle.builder.proofs.range.corners.Statement.{statement}
 use Rattle.builder.proofs.range.corners.Tie as tie

@@ -2,7 +2,7 @@
 use mathlib.Core.Path.{_≡_, refl}
 use Prim.Native.Nat.{ℕ, _-_, _≤_}
 use lib.ListN.{length, take, replicate, length-set}
-use Rattle.builder.proofs.Fills.{all-written, rep-more}
+use Rattle.builder.proofs.StartLoops.{all-written, rep-more}
 use borrow.Author.Needs.{needs}
 use Rattle.builder.proofs.start.clear.Statement.{statement}
 use Rattle.builder.proofs.start.clear.Tie as tie

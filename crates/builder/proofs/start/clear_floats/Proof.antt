@@ -4,7 +4,7 @@ use Prim.Native.Nat.{ℕ, _-_, _≤_}
 use lib.ListN.{length, take, replicate, length-set}
 use lib.Ieee.{Float}
 use Rattle.float.specs.Number.{nought}
-use Rattle.builder.proofs.Fills.{all-written, rep-more}
+use Rattle.builder.proofs.StartLoops.{all-written, rep-more}
 use borrow.Author.Needs.{needs}
 use Rattle.builder.proofs.start.clear_floats.Statement.{statement}
 use Rattle.builder.proofs.start.clear_floats.Tie as tie

@@ -3,7 +3,7 @@ use mathlib.Core.Path.{_≡_, refl}
 use Prim.Native.Nat.{_-_, _≤_}
 use lib.ListN.{length, take, length-set}
 use Rattle.lent.specs.Permutation.{upTo}
-use Rattle.builder.proofs.Fills.{all-written, up-more}
+use Rattle.builder.proofs.StartLoops.{all-written, up-more}
 use borrow.Author.Needs.{needs}
 use Rattle.builder.proofs.start.count_up.Statement.{statement}
 use Rattle.builder.proofs.start.count_up.Tie as tie

@@ -1,5 +1,5 @@
 -- Both cases of the definition. Assumes nothing.
-use Rattle.builder.proofs.Fills.{room-none, room-some}
+use Rattle.builder.proofs.StartLoops.{room-none, room-some}
 use borrow.Author.Needs.{needs}
 use Rattle.builder.proofs.start.room.Statement.{statement}
 use Rattle.builder.proofs.start.room.Tie as tie

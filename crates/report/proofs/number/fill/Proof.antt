@@ -3,7 +3,7 @@ use mathlib.Core.Path.{_≡_, refl}
 use Prim.Native.Nat.{_-_, _≤_}
 use borrow.Author.Needs.{needs}
 use lib.ListN.{length, take, length-set}
-use Rattle.builder.proofs.Fills.{all-written}
+use Rattle.builder.proofs.StartLoops.{all-written}
 use Rattle.report.specs.Little.{numbers}
 use Rattle.report.proofs.Reading.{numbers-more}
 use Rattle.report.proofs.number.fill.Statement.{statement}

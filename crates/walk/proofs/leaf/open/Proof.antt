@@ -1,6 +1,6 @@
 -- The test is that of the definition. Assumes nothing.
 use mathlib.Core.Path.{_∙_}
-use Rattle.walk.proofs.Judged.{leaf-beyond, leaf-within}
+use Rattle.walk.proofs.VisitEnds.{leaf-beyond, leaf-within}
 use borrow.Author.Needs.{needs}
 use Rattle.walk.proofs.leaf.open.Statement.{statement}
 use Rattle.walk.proofs.leaf.open.Tie as tie

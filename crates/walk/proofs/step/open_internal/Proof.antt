@@ -1,6 +1,6 @@
 -- The tests are those of the definition, in its order: right is left + 1, so one test tells of both. Assumes nothing.
 use native.Mathlib.Omega.{arith}
-use Rattle.walk.proofs.Judged.{beyond, left-there, full, both-put}
+use Rattle.walk.proofs.VisitEnds.{beyond, left-there, full, both-put}
 use borrow.Author.Needs.{needs}
 use Rattle.walk.proofs.step.open_internal.Statement.{statement}
 use Rattle.walk.proofs.step.open_internal.Tie as tie

@@ -4,7 +4,7 @@ use mathlib.Core.Bool.{true, false, not}
 use borrow.Author.Tests.{not-true, not-false}
 use Rattle.tree.specs.Lent.{Lent, lent}
 use Rattle.tree.specs.Node.{sound}
-use Rattle.walk.proofs.Judged.{not-passed, passed, unsound, outside, at-leaf, at-internal}
+use Rattle.walk.proofs.VisitEnds.{not-passed, passed, unsound, outside, at-leaf, at-internal}
 use borrow.Author.Needs.{needs}
 use Rattle.walk.proofs.step.visit.Statement.{statement}
 use Rattle.walk.proofs.step.visit.Tie as tie

@@ -1,6 +1,6 @@
 -- Right is stored in the last one's place and left behind it. Assumes nothing.
 use mathlib.Core.Path.{refl}
-use Rattle.walk.proofs.Listed.{both-pending}
+use Rattle.walk.proofs.PendingList.{both-pending}
 use borrow.Author.Needs.{needs}
 use Rattle.walk.proofs.pending.Pending.opened.Statement.{statement}
 use Rattle.walk.proofs.pending.Pending.opened.Tie as tie

@@ -13,9 +13,9 @@ use Rattle.walk.specs.declared.turn.Turn.the-variants.{Refuse, Missed, D
 use Rattle.tree.specs.Lent.{Lent, nodeCount}
 use Rattle.lent.specs.Limits.{most-pending, most-nodes}
 use Rattle.walk.specs.Walk.{start, boxed, visit, refused, over, onward, run}
-use Rattle.walk.specs.State.{top, pending, besides, Ready}
-use Rattle.walk.proofs.Listed.{taken, length-top}
-use Rattle.walk.proofs.Kept.{Counted, Opens, Leaves, visited}
+use Rattle.walk.specs.inner.State.{top, pending, besides, Ready}
+use Rattle.walk.proofs.PendingList.{taken, length-top}
+use Rattle.walk.proofs.Visits.{Counted, Opens, Leaves, visited}
 
 -- each number is below n
 abbrev pub Each : ℕ → List ℕ → Type 0

@@ -12,9 +12,9 @@ use Rattle.aabb.specs.declared.vector.Vec3.{Vec3}
 use Rattle.aabb.specs.declared.bounds.Aabb.{Aabb}
 use Rattle.triangle.specs.Mesh.{boundsAt, centroidAt, centroidOf, triangleAt}
 use Rattle.builder.specs.declared.bins.Bin.{Bin}
-use Rattle.builder.specs.Bins.{binOf, blank, filled, noBin, place, withBox, withOne}
+use Rattle.builder.specs.Bins.{binOf, blank, filled, noBin, binFor, withBox, withOne}
 use Rattle.builder.specs.inner.Lanes.{lane, Lanes, OneMore, Vacant}
-use Rattle.builder.proofs.Filling.{fill-again, fill-end}
+use Rattle.builder.proofs.BinsFilled.{fill-again, fill-end}
 use Rattle.builder.proofs.Lanes.{More, count-other, lane-apart, lane-more, lane-vacant, lanes-more, lanes-up}
 
 -- on each axis, what is left of the range from i on fills the bins so far to the whole
@@ -87,8 +87,8 @@ in-bins-on c lo sc zero = refl
 in-bins-on c lo sc (suc zero) = refl
 in-bins-on c lo sc (suc (suc a)) = refl
 
-bin-on : (m : List Float) (c lo sc : Vec3) (i a : ℕ) → c ≡ centroidOf (triangleAt m i) → binOf 15 (along a (inBins c lo sc)) ≡ place m a (along a lo) (along a sc) i
-unfolding place centroidAt
+bin-on : (m : List Float) (c lo sc : Vec3) (i a : ℕ) → c ≡ centroidOf (triangleAt m i) → binOf 15 (along a (inBins c lo sc)) ≡ binFor m a (along a lo) (along a sc) i
+unfolding binFor centroidAt
 bin-on m c lo sc i a p = ap (binOf 15) (in-bins-on c lo sc a ∙ ap (λ (v : Vec3). mul binary64 (sub binary64 (along a v) (along a lo)) (along a sc)) p)
 
 pub ahead-again : (m : List Float) (lo sc : Vec3) (xs : List ℕ) (i : ℕ) (bs bs′ : List Float) (cs cs′ : List ℕ) (c : Vec3) (b : Aabb) → i < length xs → c ≡ centroidOf (triangleAt m (getD xs i 0)) → b ≡ boundsAt m (getD xs i 0)

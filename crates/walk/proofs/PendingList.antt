@@ -6,7 +6,7 @@ use native.Mathlib.Numerals.{add-one}
 use native.Mathlib.Omega.{arith}
 use lib.ListN.{length, getD, set, length-set}
 use lib.Seq.{getD-set-same, getD-set-other}
-use Rattle.walk.specs.State.{top}
+use Rattle.walk.specs.inner.State.{top}
 
 top-set : (nodes : List ℕ) (i v k : ℕ) → k ≤ i → top (set nodes i v) k ≡ top nodes k
 top-set nodes i v zero h = refl
