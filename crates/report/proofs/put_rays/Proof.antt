@@ -22,27 +22,6 @@ loop-holds : tie.Need-loop-holds Inv-loop μ-loop
 unfolding rayLines
 loop-holds c = (search needs, refl, search needs, wrote-none _ _)
 
-mul-ray : tie.Need-mul-ray Inv-loop μ-loop
-mul-ray c = search needs
-
-add-ray : tie.Need-add-ray Inv-loop μ-loop
-add-ray c = search needs
-
-ray-requires : tie.Need-ray-requires Inv-loop μ-loop
-ray-requires c κs = search needs
-
-walk-requires : tie.Need-walk-requires Inv-loop μ-loop
-walk-requires c κs = search needs
-
-put-ray-requires : tie.Need-put-ray-requires Inv-loop μ-loop
-put-ray-requires c κs = search needs
-
-add-k : tie.Need-add-k Inv-loop μ-loop
-add-k c = search needs
-
-loop-less : tie.Need-loop-less Inv-loop μ-loop
-loop-less c = search needs
-
 loop-again : tie.Need-loop-again Inv-loop μ-loop
 loop-again c =
     let l = c .before .before .before .before .before .before .before .loop in
@@ -71,13 +50,8 @@ put-rays-spec =
     Inv-loop
     μ-loop
     loop-holds
-    mul-ray
-    add-ray
-    ray-requires
-    walk-requires
-    put-ray-requires
-    add-k
-    loop-less
+    (λ c. search needs) (λ c. search needs) (λ c κs. search needs) (λ c κs. search needs) (λ c κs. search needs) (λ c. search needs)
+    (λ c. search needs)
     loop-again
     same-length
     returns)

@@ -8,41 +8,17 @@ use borrow.Author.Needs.{needs}
 use Rattle.report.proofs.survey.Statement.{statement}
 use Rattle.report.proofs.survey.Tie as tie
 
-measure-requires : tie.Need-measure-requires
-measure-requires c κs = search needs
-
 enum-told : tie.Need-enum-told
 enum-told c = search needs
 
-slice-aggregate-put : tie.Need-slice-aggregate-put
-slice-aggregate-put c = search needs
-
-put-requires : tie.Need-put-requires
-put-requires c κs = search needs
-
-enum-known-found : tie.Need-enum-known-found
-enum-known-found c = search needs
-
 mul-end : tie.Need-mul-end
 mul-end c = let f = fits _ _ _ (sym (c .before .found .given .1) ∙ c .before .before .before .measure .ensures) in omega arith
-
-sub-fill : tie.Need-sub-fill
-sub-fill c = search needs
-
-part-mesh-start : tie.Need-part-mesh-start
-part-mesh-start c = search needs
 
 part-mesh-end : tie.Need-part-mesh-end
 part-mesh-end c = let f = fits _ _ _ (sym (c .before .found .given .1) ∙ c .before .before .before .measure .ensures) in search needs
 
 fill-requires : tie.Need-fill-requires
 fill-requires c κs = let f = fits _ _ _ (sym (c .before .before .found .given .1) ∙ c .before .before .before .before .measure .ensures) in mesh-read _ _ _ _ (f .2)
-
-sub-report : tie.Need-sub-report
-sub-report c = search needs
-
-part-report-start : tie.Need-part-report-start
-part-report-start c = search needs
 
 part-report-end : tie.Need-part-report-end
 part-report-end c = let f = fits _ _ _ (sym (c .before .before .before .before .before .found .given .1) ∙ c .before .before .before .before .before .before .before .measure .ensures) in mesh-within _ (c .before .before .fill .last .1 .1 .0) _ (omega (arith, f)) (c .before .before .fill .kept .1 .1 .0)
@@ -64,18 +40,14 @@ pub survey-spec : {M : Type 1} → statement M
 survey-spec =
     tie.close
     (tie.spec
-    measure-requires
+    (λ c κs. search needs)
     enum-told
-    slice-aggregate-put
-    put-requires
-    enum-known-found
+    (λ c. search needs) (λ c κs. search needs) (λ c. search needs)
     mul-end
-    sub-fill
-    part-mesh-start
+    (λ c. search needs) (λ c. search needs)
     part-mesh-end
     fill-requires
-    sub-report
-    part-report-start
+    (λ c. search needs) (λ c. search needs)
     part-report-end
     report-requires
     returns

@@ -5,21 +5,6 @@ use borrow.Author.Needs.{needs}
 use Rattle.sky.proofs.place_of.Statement.{statement}
 use Rattle.sky.proofs.place_of.Tie as tie
 
-enum-known-answer : tie.Need-enum-known-answer
-enum-known-answer c = search needs
-
-cast-t10 : tie.Need-cast-t10
-cast-t10 c = search needs
-
-enum-known-answer-2 : tie.Need-enum-known-answer-2
-enum-known-answer-2 c = search needs
-
-enum-known-answer-3 : tie.Need-enum-known-answer-3
-enum-known-answer-3 c = search needs
-
-cast-t11 : tie.Need-cast-t11
-cast-t11 c = search needs
-
 returns : tie.Need-returns
 unfolding told placeOf placed
 returns c = rw (c .before .before .answer .given .1)
@@ -36,11 +21,7 @@ pub place-of-spec : {M : Type 1} → statement M
 place-of-spec =
     tie.close
     (tie.spec
-    enum-known-answer
-    cast-t10
-    enum-known-answer-2
-    enum-known-answer-3
-    cast-t11
+    (λ c. search needs) (λ c. search needs) (λ c. search needs) (λ c. search needs) (λ c. search needs)
     returns
     returns-2
     returns-3)

@@ -25,9 +25,6 @@ returns-4 c =
     let m = c .before .before in
     ends (goes (agree (m .before .if1 .left)) (goes (not-below (m .if2 .left)) (goes (agree (c .before .if3 .left)) (stops (below (c .if4 .taken)) refl))))
 
-mul-if5 : tie.Need-mul-if5
-mul-if5 c = search needs
-
 returns-5 : tie.Need-returns-5
 unfolding sky skyRefusal
 returns-5 c =
@@ -66,7 +63,7 @@ sky-spec =
     returns-2
     returns-3
     returns-4
-    mul-if5
+    (λ c. search needs)
     returns-5
     fill-requires
     same-length

@@ -9,9 +9,6 @@ use Rattle.aabb.proofs.vector.place.Tie as tie
 returns : tie.Need-returns
 returns c = let a = c .before .args in place-none (a .i) (a .width) (length (a .numbers .now)) (c .if1 .taken)
 
-div-if2 : tie.Need-div-if2
-div-if2 c = search needs
-
 mul-result : tie.Need-mul-result
 mul-result c = let a = c .before .before .args in omega (arith, place-whole (a .i) (a .width) (length (a .numbers .now)) (c .before .if1 .left) (c .if2 .taken))
 
@@ -22,4 +19,4 @@ returns-3 : tie.Need-returns-3
 returns-3 c = let a = c .before .before .args in omega (arith, place-end (a .i) (a .width) (length (a .numbers .now)) (c .before .if1 .left) (c .if2 .left))
 
 pub place-spec : {M : Type 1} → statement M
-place-spec = tie.close (tie.spec returns div-if2 mul-result returns-2 returns-3)
+place-spec = tie.close (tie.spec returns (λ c. search needs) mul-result returns-2 returns-3)

@@ -18,28 +18,10 @@ loop-holds : tie.Need-loop-holds Inv-loop μ-loop
 unfolding upTo
 loop-holds c = (search needs, refl, refl)
 
-cast-index : tie.Need-cast-index Inv-loop μ-loop
-cast-index c = search needs
-
-mul-index : tie.Need-mul-index Inv-loop μ-loop
-mul-index c = search needs
-
-slice-write-index : tie.Need-slice-write-index Inv-loop μ-loop
-slice-write-index c = search needs
-
-add-i : tie.Need-add-i Inv-loop μ-loop
-add-i c = search needs
-
-loop-less : tie.Need-loop-less Inv-loop μ-loop
-loop-less c = search needs
-
 loop-again : tie.Need-loop-again Inv-loop μ-loop
 loop-again c =
     let l = c .before .loop in
     (search needs, simp length-set (l .inv .1), up-more (l .index) (l .i) (c .loop-test .taken) (l .inv .2))
-
-same-length : tie.Need-same-length Inv-loop μ-loop
-same-length c = search needs
 
 returns : tie.Need-returns Inv-loop μ-loop
 returns c =
@@ -53,11 +35,7 @@ count-up-spec =
     Inv-loop
     μ-loop
     loop-holds
-    cast-index
-    mul-index
-    slice-write-index
-    add-i
-    loop-less
+    (λ c. search needs) (λ c. search needs) (λ c. search needs) (λ c. search needs) (λ c. search needs)
     loop-again
-    same-length
+    (λ c. search needs)
     returns)

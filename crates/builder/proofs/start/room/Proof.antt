@@ -7,14 +7,8 @@ use Rattle.builder.proofs.start.room.Tie as tie
 returns : tie.Need-returns
 returns c = room-none (c .before .args .n) (c .if1 .taken)
 
-mul-result : tie.Need-mul-result
-mul-result c = search needs
-
-sub-result : tie.Need-sub-result
-sub-result c = search needs
-
 returns-2 : tie.Need-returns-2
 returns-2 c = room-some (c .before .args .n) (c .if1 .left)
 
 pub room-spec : {M : Type 1} → statement M
-room-spec = tie.close (tie.spec returns mul-result sub-result returns-2)
+room-spec = tie.close (tie.spec returns (λ c. search needs) (λ c. search needs) returns-2)

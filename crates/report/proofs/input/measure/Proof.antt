@@ -9,38 +9,14 @@ use Rattle.report.proofs.input.measure.Tie as tie
 returns : tie.Need-returns
 returns c = cut _ _ refl (omega arith)
 
-word-requires : tie.Need-word-requires
-word-requires c κs = search needs
-
 returns-2 : tie.Need-returns-2
 returns-2 c = over _ _ (c .before .word .ensures .0) (c .if2 .taken)
-
-mul-at : tie.Need-mul-at
-mul-at c = search needs
-
-add-at : tie.Need-add-at
-add-at c = search needs
-
-add-if3 : tie.Need-add-if3
-add-if3 c = search needs
 
 returns-3 : tie.Need-returns-3
 returns-3 c = cut _ _ (c .before .before .word .ensures .0) (c .if3 .taken)
 
-word-requires-2 : tie.Need-word-requires-2
-word-requires-2 c κs = search needs
-
 returns-4 : tie.Need-returns-4
 returns-4 c = over-rays _ _ (c .before .before .before .before .word .ensures .0) _ (c .before .word2 .ensures .0) (c .if4 .taken)
-
-add-whole : tie.Need-add-whole
-add-whole c = search needs
-
-mul-whole : tie.Need-mul-whole
-mul-whole c = search needs
-
-add-whole-2 : tie.Need-add-whole-2
-add-whole-2 c = search needs
 
 returns-5 : tie.Need-returns-5
 returns-5 c = misfit _ _ (c .before .before .before .before .before .word .ensures .0) _ (c .before .before .word2 .ensures .0) (λ e. omega (arith, e, c .if5 .taken))
@@ -58,17 +34,13 @@ measure-spec =
     tie.close
     (tie.spec
     returns
-    word-requires
+    (λ c κs. search needs)
     returns-2
-    mul-at
-    add-at
-    add-if3
+    (λ c. search needs) (λ c. search needs) (λ c. search needs)
     returns-3
-    word-requires-2
+    (λ c κs. search needs)
     returns-4
-    add-whole
-    mul-whole
-    add-whole-2
+    (λ c. search needs) (λ c. search needs) (λ c. search needs)
     returns-5
     returns-6
     returns-7)

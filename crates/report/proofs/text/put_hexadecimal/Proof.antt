@@ -6,23 +6,11 @@ use borrow.Author.Needs.{needs}
 use Rattle.report.proofs.text.put_hexadecimal.Statement.{statement}
 use Rattle.report.proofs.text.put_hexadecimal.Tie as tie
 
-hex-requires : tie.Need-hex-requires
-hex-requires c κs = search needs
-
-array-share-prefix-digits : tie.Need-array-share-prefix-digits
-array-share-prefix-digits c = search needs
-
-slice-aggregate-put : tie.Need-slice-aggregate-put
-slice-aggregate-put c = search needs
-
 put-requires : tie.Need-put-requires
 put-requires c κs =
     let d = c .before .before .hex in
     let k = at-most 16 16 16 _ _ (omega arith) (omega arith) (omega arith) (d .ensures .1 .0) in
     omega (arith, k, d .ensures .0)
-
-same-length : tie.Need-same-length
-same-length c = search needs
 
 returns : tie.Need-returns
 returns c =
@@ -35,9 +23,7 @@ pub put-hexadecimal-spec : {M : Type 1} → statement M
 put-hexadecimal-spec =
     tie.close
     (tie.spec
-    hex-requires
-    array-share-prefix-digits
-    slice-aggregate-put
+    (λ c κs. search needs) (λ c. search needs) (λ c. search needs)
     put-requires
-    same-length
+    (λ c. search needs)
     returns)

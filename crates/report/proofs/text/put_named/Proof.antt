@@ -6,18 +6,9 @@ use borrow.Author.Needs.{needs}
 use Rattle.report.proofs.text.put_named.Statement.{statement}
 use Rattle.report.proofs.text.put_named.Tie as tie
 
-put-requires : tie.Need-put-requires
-put-requires c κs = search needs
-
-put-decimal-requires : tie.Need-put-decimal-requires
-put-decimal-requires c κs = search needs
-
-same-length : tie.Need-same-length
-same-length c = search needs
-
 returns : tie.Need-returns
 unfolding named
 returns c = (and-then _ _ _ _ _ _ _ _ (omega (arith, c .before .before .before .before .before .before .put .ensures .place)) (c .before .before .before .before .before .before .put .ensures) (c .before .before .put-decimal .ensures .0), omega (arith, c .before .before .before .before .before .before .put .ensures .place, c .before .before .put-decimal .ensures .1))
 
 pub put-named-spec : {M : Type 1} → statement M
-put-named-spec = tie.close (tie.spec put-requires put-decimal-requires same-length returns)
+put-named-spec = tie.close (tie.spec (λ c κs. search needs) (λ c κs. search needs) (λ c. search needs) returns)

@@ -5,29 +5,14 @@ use Rattle.aabb.proofs.Limits.{out-of-order, too-low, high-enough}
 use Rattle.aabb.proofs.bounds.Aabb.bounded.Statement.{statement}
 use Rattle.aabb.proofs.bounds.Aabb.bounded.Tie as tie
 
-at-most-requires : tie.Need-at-most-requires
-at-most-requires c κs = search needs
-
 returns : tie.Need-returns
 returns c = out-of-order _ _ (c .before .at-most .ensures) (not-true _ (c .if1 .taken))
-
-lower-requires : tie.Need-lower-requires
-lower-requires c κs = search needs
-
-lower-requires-2 : tie.Need-lower-requires-2
-lower-requires-2 c κs = search needs
 
 returns-2 : tie.Need-returns-2
 returns-2 c =
     let l = c .before in
     let o = l .before .before in
     too-low _ _ (o .before .at-most .ensures) (not-false _ (o .if1 .left)) _ _ (l .before .lower .ensures) (l .lower2 .ensures) (not-true _ (c .if2 .taken))
-
-higher-requires : tie.Need-higher-requires
-higher-requires c κs = search needs
-
-higher-requires-2 : tie.Need-higher-requires-2
-higher-requires-2 c κs = search needs
 
 returns-3 : tie.Need-returns-3
 returns-3 c =
@@ -40,11 +25,9 @@ pub bounded-spec : {M : Type 1} → statement M
 bounded-spec =
     tie.close
     (tie.spec
-    at-most-requires
+    (λ c κs. search needs)
     returns
-    lower-requires
-    lower-requires-2
+    (λ c κs. search needs) (λ c κs. search needs)
     returns-2
-    higher-requires
-    higher-requires-2
+    (λ c κs. search needs) (λ c κs. search needs)
     returns-3)

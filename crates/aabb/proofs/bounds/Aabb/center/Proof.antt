@@ -4,15 +4,9 @@ use borrow.Author.Needs.{needs}
 use Rattle.aabb.proofs.bounds.Aabb.center.Statement.{statement}
 use Rattle.aabb.proofs.bounds.Aabb.center.Tie as tie
 
-plus-requires : tie.Need-plus-requires
-plus-requires c κs = search needs
-
-scaled-requires : tie.Need-scaled-requires
-scaled-requires c κs = search needs
-
 returns : tie.Need-returns
 unfolding center
 returns c = cc
 
 pub center-spec : {M : Type 1} → statement M
-center-spec = tie.close (tie.spec plus-requires scaled-requires returns)
+center-spec = tie.close (tie.spec (λ c κs. search needs) (λ c κs. search needs) returns)

@@ -4,15 +4,6 @@ use borrow.Author.Needs.{needs}
 use Rattle.aabb.proofs.bounds.Aabb.is_empty.Statement.{statement}
 use Rattle.aabb.proofs.bounds.Aabb.is_empty.Tie as tie
 
-infinity-requires : tie.Need-infinity-requires
-infinity-requires c κs = search needs
-
-all-equal-requires : tie.Need-all-equal-requires
-all-equal-requires c κs = search needs
-
-all-equal-requires-2 : tie.Need-all-equal-requires-2
-all-equal-requires-2 c κs = search needs
-
 returns : tie.Need-returns
 returns c =
     let first = c .before .before in
@@ -30,4 +21,4 @@ returns-2 c =
 pub is-empty-spec : {M : Type 1} → statement M
 is-empty-spec =
     tie.close
-    (tie.spec infinity-requires all-equal-requires all-equal-requires-2 returns returns-2)
+    (tie.spec (λ c κs. search needs) (λ c κs. search needs) (λ c κs. search needs) returns returns-2)

@@ -6,9 +6,6 @@ use borrow.Author.Needs.{needs}
 use Rattle.aabb.proofs.bounds.Aabb.surface_area.Statement.{statement}
 use Rattle.aabb.proofs.bounds.Aabb.surface_area.Tie as tie
 
-extent-requires : tie.Need-extent-requires
-extent-requires c κs = search needs
-
 returns : tie.Need-returns
 returns c = let e = c .before .before in area-flat (e .before .args .self) _ (e .extent .ensures) (or-yes _ _ (c .if1 .taken))
 
@@ -34,4 +31,4 @@ returns-4 c =
     area-full (e .before .args .self) _ (e .extent .ensures) (or-next _ _ _ (one .if1 .left) (or-next _ _ _ (two .if2 .left) (sym (three .if3 .left))))
 
 pub surface-area-spec : {M : Type 1} → statement M
-surface-area-spec = tie.close (tie.spec extent-requires returns returns-2 returns-3 returns-4)
+surface-area-spec = tie.close (tie.spec (λ c κs. search needs) returns returns-2 returns-3 returns-4)

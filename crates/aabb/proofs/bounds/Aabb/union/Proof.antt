@@ -4,15 +4,9 @@ use borrow.Author.Needs.{needs}
 use Rattle.aabb.proofs.bounds.Aabb.union.Statement.{statement}
 use Rattle.aabb.proofs.bounds.Aabb.union.Tie as tie
 
-least-requires : tie.Need-least-requires
-least-requires c κs = search needs
-
-greatest-requires : tie.Need-greatest-requires
-greatest-requires c κs = search needs
-
 returns : tie.Need-returns
 unfolding union
 returns c = cc
 
 pub union-spec : {M : Type 1} → statement M
-union-spec = tie.close (tie.spec least-requires greatest-requires returns)
+union-spec = tie.close (tie.spec (λ c κs. search needs) (λ c κs. search needs) returns)

@@ -6,19 +6,13 @@ use borrow.Author.Needs.{needs}
 use Rattle.aabb.proofs.bounds.Aabb.usable.Statement.{statement}
 use Rattle.aabb.proofs.bounds.Aabb.usable.Tie as tie
 
-bounded-requires : tie.Need-bounded-requires
-bounded-requires c κs = search needs
-
 returns : tie.Need-returns
 unfolding usable
 returns c = or-yes _ _ (sym (c .before .bounded .ensures) ∙ c .if1 .taken)
-
-is-empty-requires : tie.Need-is-empty-requires
-is-empty-requires c κs = search needs
 
 returns-2 : tie.Need-returns-2
 unfolding usable
 returns-2 c = or-next _ _ _ (sym (c .before .before .bounded .ensures) ∙ c .before .if1 .left) (c .is-empty .ensures)
 
 pub usable-spec : {M : Type 1} → statement M
-usable-spec = tie.close (tie.spec bounded-requires returns is-empty-requires returns-2)
+usable-spec = tie.close (tie.spec (λ c κs. search needs) returns (λ c κs. search needs) returns-2)

@@ -6,12 +6,6 @@ use borrow.Author.Needs.{needs}
 use Rattle.aabb.proofs.vector.Ray.admitted.Statement.{statement}
 use Rattle.aabb.proofs.vector.Ray.admitted.Tie as tie
 
-within-requires : tie.Need-within-requires
-within-requires c κs = search needs
-
-within-requires-2 : tie.Need-within-requires-2
-within-requires-2 c κs = search needs
-
 returns : tie.Need-returns
 unfolding admittedRay
 returns c = and-go _ _ _ (sym (c .before .before .within .ensures) ∙ c .before .if1 .taken) (c .within2 .ensures)
@@ -21,4 +15,4 @@ unfolding admittedRay
 returns-2 c = and-no _ _ (sym (c .before .within .ensures) ∙ c .if1 .left)
 
 pub admitted-spec : {M : Type 1} → statement M
-admitted-spec = tie.close (tie.spec within-requires within-requires-2 returns returns-2)
+admitted-spec = tie.close (tie.spec (λ c κs. search needs) (λ c κs. search needs) returns returns-2)

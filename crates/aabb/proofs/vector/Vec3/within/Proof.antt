@@ -6,15 +6,6 @@ use Rattle.aabb.specs.Vector.{allWithin}
 use Rattle.aabb.proofs.vector.Vec3.within.Statement.{statement}
 use Rattle.aabb.proofs.vector.Vec3.within.Tie as tie
 
-limited-requires : tie.Need-limited-requires
-limited-requires c κs = search needs
-
-limited-requires-2 : tie.Need-limited-requires-2
-limited-requires-2 c κs = search needs
-
-limited-requires-3 : tie.Need-limited-requires-3
-limited-requires-3 c κs = search needs
-
 returns : tie.Need-returns
 unfolding allWithin
 returns c =
@@ -33,4 +24,4 @@ unfolding allWithin
 returns-3 c = and-no _ _ (sym (c .before .limited .ensures) ∙ c .if1 .left)
 
 pub within-spec : {M : Type 1} → statement M
-within-spec = tie.close (tie.spec limited-requires limited-requires-2 limited-requires-3 returns returns-2 returns-3)
+within-spec = tie.close (tie.spec (λ c κs. search needs) (λ c κs. search needs) (λ c κs. search needs) returns returns-2 returns-3)
