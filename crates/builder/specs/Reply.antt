@@ -1,4 +1,4 @@
--- A build's answer: document 01's number and values for every case. Definitions only.
+-- A build's answer: the rules' number and values for every case (rules C8, C9). Definitions only.
 use Prim.Native.Nat.{ℕ}
 use Rattle.lent.specs.Ladder.{Refusal, none, numbered}
 use Rattle.builder.specs.declared.Built.{Built}

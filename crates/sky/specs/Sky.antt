@@ -58,7 +58,7 @@ placeAt times told k = record {
 }
 
 -- ---- the call
--- its answer: every place is filled, or document 02's refusal of the whole call
+-- its answer: every place is filled, or the refusal of the whole call (rule K4)
 unfoldable pub skyRefusal : Filled → Refusal
 skyRefusal Places = none
 skyRefusal (Refused number at) = numbered number at

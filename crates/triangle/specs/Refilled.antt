@@ -13,7 +13,7 @@ use Rattle.triangle.specs.declared.normals.Refill.the-variants.{Done, Re
 use Rattle.triangle.specs.Mesh.{triangleAt, admittedTriangle, firstRefused, unadmitted}
 use Rattle.triangle.specs.Normal.{normalOf, newTriangle}
 
--- the call's answer: the normals are refilled, or document 01's refusal
+-- the call's answer: the normals are refilled, or the refusal (rule T7)
 unfoldable pub refillRefusal : Refill → Refusal
 refillRefusal Done = none
 refillRefusal (Refused number at) = numbered number at
