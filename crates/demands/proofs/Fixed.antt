@@ -91,6 +91,7 @@ use Rattle.tree.proofs.misfit.Reads as tree-misfit
 use Rattle.triangle.proofs.refill_normals.Reads as triangle-refill-normals
 use Rattle.builder.proofs.build.Reads as builder-build
 use Rattle.walk.proofs.walk.Reads as walk-walk
+use Rattle.sky.proofs.judge.Reads as sky-judge
 use Rattle.sky.proofs.sky.Reads as sky-sky
 
 -- the calls of `float`
@@ -138,6 +139,9 @@ told-fixes (Refused k i) (Missed b' c') p = absurd (let e = ap (λ (t : Told). t
 
 pub walk-fixed : Fixes walk-walk.Post
 walk-fixed = record { same = λ κs x r r' e e' p q. told-fixes r r' (p ∙ sym q) }
+
+pub judge-fixed : Fixes sky-judge.Post
+judge-fixed = record { same = λ κs x r r' e e' p q. sky-told r r' (p ∙ sym q) }
 
 -- the answer, and the answer room at the end
 sky-same : (a b : Filled) (x y : List Float) (k l : List ℕ) → filling (skyRefusal a) x k ≡ filling (skyRefusal b) y l → _≡_ {A = Filled × List Float × List ℕ} (a, x, k) (b, y, l)

@@ -82,7 +82,7 @@ module _ (mesh : List Float) (index : List ℕ) (boxes : List Float) (links : Li
       let w = built-walk mesh index boxes links nodes leaf-count e in
       let W = w .accepted .walkable in
       let o = sky s rays times told in
-      let is : o .refusal ≡ none = served s rays times told (W .whole) (W .few) sixes timed roomy in
+      let is : o .refusal ≡ none = served s rays times told (record { whole = W .whole; few = W .few; sixes = sixes; timed = timed; roomy = roomy }) in
       record {
         signed = w;
         served = is;

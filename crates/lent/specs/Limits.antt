@@ -16,3 +16,7 @@ deepest = 63
 -- Rule D7: the nodes that a walk keeps for later
 abbrev pub most-pending : ℕ
 most-pending = 64
+
+-- Rule D7: the rays of a call that weighs them
+abbrev pub most-rays : ℕ
+most-rays = 1048576

@@ -12,3 +12,6 @@ pub const DEEPEST: usize = 63;
 
 // Pending node numbers of a walk at most.
 pub const MOST_PENDING: usize = 64;
+
+// Rays of a call that weighs them.
+pub const MOST_RAYS: usize = 1048576;

@@ -6,10 +6,11 @@ ghost use mathlib.Core.Path.{_≡_};
 ghost use mathlib.Core.List.{_++_};
 ghost use Prim.Native.Nat.{_+_, _*_, _≤_};
 ghost use lib.ListN.{length, set, drop};
+ghost use Rattle.lent.specs.Ladder.{firstFailed};
 ghost use Rattle.lent.specs.Flat.{put as written, records};
-ghost use Rattle.tree.specs.Lent.{lent};
+ghost use Rattle.tree.specs.Lent.{meshOf, lent};
 ghost use Rattle.walk.specs.Answer.{told as answered};
-ghost use Rattle.sky.specs.Sky.{placeOf, toldOf, timesFor, toldFor, skyRefusal, filling, sky};
+ghost use Rattle.sky.specs.Sky.{placeOf, toldOf, timesFor, toldFor, skyRefusal, filling, skyChecks, sky};
 
 // What the call answers: every ray's place is filled, or the whole call is refused, with a number and `at`.
 pub enum Filled {
@@ -98,21 +99,10 @@ fn fill(
     }
 }
 
-// The walk of every ray, six numbers each: origin, direction. Place k is what `walk` answers for ray k: times[k] is t of a hit, else 0, and
-// told[4k..4k+4] are the outcome (0 a miss, 100 a hit, else the refusal number), the triangle or the refusal's `at`, the box tests and the
-// triangle tests, 0 where none applies. A refused ray does not stop the rest; room beyond the rays stays. The whole call is refused, in this
-// order, and then writes nothing: 1 triangles that are not in twelves; 2 more than 65,536 of them; 14 rays that are not in sixes;
-// 13 times shorter than one a ray or told shorter than four.
-pub fn sky(
-    triangles: &[f64],
-    index: &[u32],
-    boxes: &[f64],
-    links: &[u32],
-    rays: &[f64],
-    times: &mut [f64],
-    told: &mut [u64],
-) -> Filled
-    ensures { λ r. ⌜ filling (skyRefusal r) (now (times .exit)) (now (told .exit)) ≡ sky (lent (now (triangles .entry)) (now (index .entry)) (now (boxes .entry)) (now (links .entry))) (now (rays .entry)) (now (times .entry)) (now (told .entry)) ⌝ }
+// What `sky` would answer for these, with nothing written: the refusals of the whole call, in this order: 1 triangles that are not in twelves;
+// 2 more than 65,536 of them; 14 rays that are not in sixes; 13 times shorter than one a ray or told shorter than four.
+pub fn judge(triangles: &[f64], rays: &[f64], times: &[f64], told: &[u64]) -> Filled
+    ensures { λ r. ⌜ skyRefusal r ≡ firstFailed (skyChecks (meshOf (now (triangles .entry))) (now (rays .entry)) (now (times .entry)) (now (told .entry))) ⌝ }
 {
     let numbers = triangles.len();
     if numbers % 12 != 0 {
@@ -135,6 +125,37 @@ pub fn sky(
     if told.len() < count * 4 {
         return Filled::Refused { number: 13, at: 0 };
     }
-    fill(triangles, index, boxes, links, rays, count, times, told);
+    Filled::Places
+}
+
+// The walk of every ray, six numbers each: origin, direction. Place k is what `walk` answers for ray k: times[k] is t of a hit, else 0, and
+// told[4k..4k+4] are the outcome (0 a miss, 100 a hit, else the refusal number), the triangle or the refusal's `at`, the box tests and the
+// triangle tests, 0 where none applies. A refused ray does not stop the rest; room beyond the rays stays. The whole call is refused as
+// `judge` says, and then writes nothing.
+pub fn sky(
+    triangles: &[f64],
+    index: &[u32],
+    boxes: &[f64],
+    links: &[u32],
+    rays: &[f64],
+    times: &mut [f64],
+    told: &mut [u64],
+) -> Filled
+    ensures { λ r. ⌜ filling (skyRefusal r) (now (times .exit)) (now (told .exit)) ≡ sky (lent (now (triangles .entry)) (now (index .entry)) (now (boxes .entry)) (now (links .entry))) (now (rays .entry)) (now (times .entry)) (now (told .entry)) ⌝ }
+{
+    let answer = judge(triangles, rays, times, told);
+    if let Filled::Refused { number, at } = answer {
+        return Filled::Refused { number, at };
+    }
+    fill(
+        triangles,
+        index,
+        boxes,
+        links,
+        rays,
+        rays.len() / 6,
+        times,
+        told,
+    );
     Filled::Places
 }

@@ -1,0 +1,6 @@
+pub mod Divisor
+pub mod LowestTerms
+pub mod OneFraction
+pub mod Weights
+pub mod Serving
+pub mod Splitting
