@@ -177,3 +177,41 @@ module _ (s : Lent) (rays : List Float) (weights : List ℕ) (a : ℕ) (in-range
         matched = omega (arith, length-take a weights, length-drop a weights, A .matched, B .matched, n, m);
         within = within;
       })
+
+-- ---- any number of parts, one cut after another
+figures-none : (s : Lent) (rays : List Float) (weights : List ℕ) → rayCount rays ≡ 0 → figuresFor s rays weights ≡ figured 0 0 0 0
+unfolding figures
+figures-none s rays weights e = ap (figures (outcomeFor s rays) weights) e
+
+-- the figures, of however many rays
+pub parts-figures : (s : Lent) (rays : List Float) (weights : List ℕ) (parts : List Part) → AreAll parts (rayCount rays) → figuresFor s rays weights ≡ partsFigures s rays weights parts
+unfolding AreAll partsFigures
+parts-figures s rays weights [] all = figures-none s rays weights all
+parts-figures s rays weights (p ∷ ps) all =
+    let rest = parts-figures s (otherRays (p .count) rays) (drop (p .count) weights) ps (rw (other-count s rays weights (p .count) (all .0)) (all .1)) in
+    cut-figures s rays weights (p .count) (all .0) ∙ ap (λ (f : Figures). added (figuresFor s (firstRays (p .count) rays) (take (p .count) weights)) f) rest
+
+-- and the calls. What is left is called in the whole's own room
+pub parts-together : (s : Lent) (rays : List Float) (weights : List ℕ) (times : List Float) (told : List ℕ) (parts : List Part) → Served s rays weights times told → AreAll parts (rayCount rays) → Roomy parts
+    → Together s rays weights parts (watts s rays weights times told)
+unfolding AreAll Roomy partsAnswer partsTimes partsTold records
+parts-together s rays weights times told [] S all room =
+    record {
+      answer = answer-of s rays times told weights S ∙ ap report (figures-none s rays weights all);
+      times = ap (λ (n : ℕ). take n (watts s rays weights times told .times)) all;
+      told = ap (λ (n : ℕ). take (n * 4) (watts s rays weights times told .told)) all;
+    }
+parts-together s rays weights times told (p ∷ ps) S all room =
+    let a = p .count in
+    let n = other-count s rays weights a (all .0) in
+    let A = asked s rays weights times told S in
+    let F = first-served s rays weights times told S a (all .0) (p .times) (p .told) (room .0) (room .1) in
+    let O = others-served s rays weights times told S a (all .0) times told (omega (arith, A .sky .timed)) (omega (arith, A .sky .roomy)) in
+    let cut = watts-cut s rays weights times told S a (all .0) (p .times) times (p .told) told F O in
+    let rest = parts-together s (otherRays a rays) (drop a weights) times told ps O (rw n (all .1)) (room .2) in
+    let o = watts s (otherRays a rays) (drop a weights) times told in
+    record {
+      answer = cut .answer ∙ ap (λ (r : Counted). joined (watts s (firstRays a rays) (take a weights) (p .times) (p .told) .answer) r) (rest .answer);
+      times = cut .times ∙ ap (λ (l : List Float). take a (watts s (firstRays a rays) (take a weights) (p .times) (p .told) .times) ++ l) (ap (λ (m : ℕ). take m (o .times)) (sym n) ∙ rest .times);
+      told = cut .told ∙ ap (λ (l : List ℕ). take (a * 4) (watts s (firstRays a rays) (take a weights) (p .times) (p .told) .told) ++ l) (ap (λ (m : ℕ). take (m * 4) (o .told)) (sym n) ∙ rest .told);
+    }
