@@ -59,6 +59,10 @@ pub enum Refusal {
     AnswerRoom,
     /// 14: the rays' numbers do not come in sixes.
     RayNumbers,
+    /// 27: there are more weights than rays, or fewer.
+    WeightsDiffer,
+    /// 28: there are more than 1,048,576 rays to be weighed.
+    TooManyRays,
     /// A number that this crate does not know: the library is newer.
     Unknown {
         /// The number.
@@ -85,6 +89,8 @@ impl Refusal {
             12 => Self::TooManyBoxTests { node: at },
             13 => Self::AnswerRoom,
             14 => Self::RayNumbers,
+            27 => Self::WeightsDiffer,
+            28 => Self::TooManyRays,
             _ => Self::Unknown { number, at },
         }
     }
@@ -107,6 +113,8 @@ impl Refusal {
             Self::TooManyBoxTests { .. } => 12,
             Self::AnswerRoom => 13,
             Self::RayNumbers => 14,
+            Self::WeightsDiffer => 27,
+            Self::TooManyRays => 28,
             Self::Unknown { number, .. } => *number,
         }
     }
@@ -181,6 +189,12 @@ impl fmt::Display for Refusal {
             Self::RayNumbers => {
                 f.write_str("the rays' numbers do not come in sixes; give origin and direction of each")
             }
+            Self::WeightsDiffer => {
+                f.write_str("weights and rays differ in number; give one weight for each ray")
+            }
+            Self::TooManyRays => f.write_str(
+                "more than 1,048,576 rays are to be weighed; divide them, and add the reports",
+            ),
             Self::Unknown { at, .. } => {
                 write!(f, "at {at}, by a number that this crate does not know; use the crate that came with the library")
             }

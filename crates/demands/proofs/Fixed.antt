@@ -17,6 +17,8 @@ use Rattle.walk.specs.declared.Answer.the-variants.{Struck, Missed, Refused}
 use Rattle.walk.specs.Answer.{Told, told}
 use Rattle.sky.specs.declared.Filled.{Filled}
 use Rattle.sky.specs.Sky.{skyRefusal, Filling, filling}
+use Rattle.watts.specs.declared.Counted.{Counted}
+use Rattle.watts.specs.Watts.{Outcome as Weighing}
 use Rattle.demands.proofs.Answers.{refill-told, build-told, sky-told}
 use Rattle.float.proofs.infinity.Reads as float-infinity
 use Rattle.float.proofs.magnitude.Reads as float-magnitude
@@ -93,6 +95,8 @@ use Rattle.builder.proofs.build.Reads as builder-build
 use Rattle.walk.proofs.walk.Reads as walk-walk
 use Rattle.sky.proofs.judge.Reads as sky-judge
 use Rattle.sky.proofs.sky.Reads as sky-sky
+use Rattle.watts.proofs.fraction.share.Reads as watts-share
+use Rattle.watts.proofs.watts.Reads as watts-watts
 
 -- the calls of `float`
 pub float-fixed : Fixes float-infinity.Post × Fixes float-magnitude.Post × Fixes float-lesser.Post × Fixes float-greater.Post × Fixes float-lower.Post × Fixes float-higher.Post × Fixes float-minus-zero.Post × Fixes float-less-number.Post × Fixes float-total-less.Post × Fixes float-bits.Post × Fixes float-from-bits.Post × Fixes float-root.Post
@@ -149,3 +153,10 @@ sky-same a b x y k l e = let t = sky-told a b (ap (λ (o : Filling). o .refusal)
 
 pub sky-fixed : FixesAll sky-sky.Post {C = Filled × List Float × List ℕ} (λ κs r e. (r, e .1 .1 .1 .1 .1 .0 .now, e .1 .1 .1 .1 .1 .1 .0 .now))
 sky-fixed κs x r r' e e' p q = sky-same r r' _ _ _ _ (p ∙ sym q)
+
+pub share-fixed : Fixes watts-share.Post
+share-fixed = fixed
+
+-- the answer, and the answer room at the end
+pub watts-fixed : FixesAll watts-watts.Post {C = Counted × List Float × List ℕ} (λ κs r e. (r, e .1 .1 .1 .1 .1 .1 .0 .now, e .1 .1 .1 .1 .1 .1 .1 .0 .now))
+watts-fixed κs x r r' e e' p q = ap (λ (o : Weighing). (o .answer, o .times, o .told)) (p ∙ sym q)

@@ -66,7 +66,7 @@ unfolding unless
 each-passed checks p = all-passed checks numbered none none (itself (firstFailed checks) ∙ p) (λ number at e. apart number at (sym e)) .0
 
 -- ---- a ladder whose first checks are another call's
-further : (checks others : List Check) → firstFailed (checks ++ others) ≡ answered (firstFailed checks) numbered (firstFailed others)
+pub further : (checks others : List Check) → firstFailed (checks ++ others) ≡ answered (firstFailed checks) numbered (firstFailed others)
 unfolding firstFailed answered
 further [] others = refl
 further (c ∷ cs) others = go (c .fails) (further cs others)
@@ -75,15 +75,6 @@ further (c ∷ cs) others = go (c .fails) (further cs others)
         → cond t (numbered (c .number) (c .at)) (firstFailed (cs ++ others)) ≡ answered (cond t (numbered (c .number) (c .at)) (firstFailed cs)) numbered (firstFailed others)
     go true e = refl
     go false e = e
-
-module _ {A : Type 0} (checks others : List Check) {refused : ℕ → ℕ → A} {served x : A} where
-  pub stops-before : (number at : ℕ) → firstFailed checks ≡ numbered number at → x ≡ refused number at → Ends (checks ++ others) refused served x
-  unfolding unless answered
-  stops-before number at p e = record { so = rw (further checks others, p) e }
-
-  pub goes-behind : firstFailed checks ≡ none → Ends others refused served x → Ends (checks ++ others) refused served x
-  unfolding unless answered
-  goes-behind p e = record { so = rw (further checks others, p) (e .so) }
 
 pub both-passed : (checks others : List Check) → firstFailed (checks ++ others) ≡ none → (firstFailed checks ≡ none) × (firstFailed others ≡ none)
 unfolding answered

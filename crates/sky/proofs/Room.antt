@@ -8,7 +8,7 @@ use lib.Seq.{sets}
 use borrow.Author.Tests.{ltb-false}
 use lib.Ieee.{Float, nan}
 use Rattle.lent.specs.Limits.{most-triangles}
-use Rattle.lent.specs.Ladder.{none, numbered, triangleCount, firstFailed, answered as answered-by}
+use Rattle.lent.specs.Ladder.{Refusal, none, numbered, triangleCount, firstFailed, answered as answered-by}
 use Rattle.lent.specs.Flat.{put, records}
 use Rattle.lent.proofs.Ladder.{ends, goes, serves, judges, judged, agree, agreed, not-below, all-passed, each-passed, apart}
 use Rattle.lent.proofs.Flat.{fill-more, records-length, records-at}
@@ -52,18 +52,15 @@ module _ (m : Mesh) (rays times : List Float) (told : List ℕ) where
         roomy = ltb-false _ _ (e .1 .1 .1 .1 .0);
       }
 
-  -- as it was judged
-  module _ (a : Filled) (is : skyRefusal a ≡ firstFailed (skyChecks m rays times told)) where
-    pub judged-none : a ≡ Places → firstFailed (skyChecks m rays times told) ≡ none
-    unfolding skyRefusal
-    judged-none e = sym is ∙ ap skyRefusal e
+-- as it was judged
+module _ (a : Filled) (r : Refusal) (is : skyRefusal a ≡ r) where
+  pub judged-none : a ≡ Places → r ≡ none
+  unfolding skyRefusal
+  judged-none e = sym is ∙ ap skyRefusal e
 
-    pub judged-passed : a ≡ Places → Passed m rays times told
-    judged-passed e = passed (judged-none e)
-
-    pub judged-failed : (number at : ℕ) → a ≡ Refused number at → firstFailed (skyChecks m rays times told) ≡ numbered number at
-    unfolding skyRefusal
-    judged-failed number at e = sym is ∙ ap skyRefusal e
+  pub judged-failed : (number at : ℕ) → a ≡ Refused number at → r ≡ numbered number at
+  unfolding skyRefusal
+  judged-failed number at e = sym is ∙ ap skyRefusal e
 
 module _ (s : Lent) (rays : List Float) where
   -- ---- so many written

@@ -1,16 +1,14 @@
 -- Each return of `watts` is a check of its ladder that fails, or the report; and a report is given just where none fails. Assumes nothing.
 use mathlib.Core.Path.{_≡_, refl, sym, ap, _∙_}
-use mathlib.Core.List.{List, [], _∷_}
-use Prim.Native.Nat.{ℕ, _≤_, _<_}
+use mathlib.Core.List.{List}
+use Prim.Native.Nat.{ℕ, _≤_}
 use native.Mathlib.Omega.{arith}
 use borrow.Author.Tests.{ltb-false}
-use lib.Dec.{eqb, ltb}
-use mathlib.Core.Bool.{not}
 use lib.ListN.{length}
 use lib.Ieee.{Float}
 use Rattle.lent.specs.Limits.{most-rays}
-use Rattle.lent.specs.Ladder.{Refusal, none, numbered, Check, check, firstFailed, answered, unless}
-use Rattle.lent.proofs.Ladder.{ends, goes, stops, serves, judges, judged, stops-before, goes-behind, both-passed, each-passed, agree, agreed, differ, below, not-below}
+use Rattle.lent.specs.Ladder.{Refusal, none, numbered, Check, firstFailed, answered, unless}
+use Rattle.lent.proofs.Ladder.{ends, goes, serves, judges, judged, further, both-passed, each-passed, agree, agreed, not-below}
 use Rattle.tree.specs.Lent.{Lent}
 use Rattle.sky.specs.declared.Place.{Place}
 use Rattle.sky.specs.Sky.{rayCount, placeFor, Filling, filling, filled, skyChecks, sky}
@@ -19,7 +17,7 @@ use Rattle.watts.specs.declared.fraction.Terms.{Terms}
 use Rattle.watts.specs.declared.sums.Figures.{Figures}
 use Rattle.watts.specs.declared.Counted.{Counted}
 use Rattle.watts.specs.declared.Counted.the-variants.{Report, Refused}
-use Rattle.watts.specs.Watts.{figures, outcomeFor, outcomeAt, figuresFor, outcome, report, Outcome, wattsChecks, watts}
+use Rattle.watts.specs.Watts.{figures, outcomeFor, outcomeAt, figuresFor, outcome, report, weightChecks, wattsChecks, watts}
 use Rattle.watts.specs.Cut.{Served}
 use Rattle.watts.proofs.Weights.{figures-same}
 
@@ -34,11 +32,13 @@ module _ (s : Lent) (rays : List Float) (weights : List ℕ) (times : List Float
   first = skyChecks (s .mesh) rays times told
 
   abbrev own : List Check
-  own = check (not (eqb (length weights) (rayCount rays))) 27 0 ∷ check (ltb most-rays (rayCount rays)) 28 0 ∷ []
+  own = weightChecks (length weights) (rayCount rays)
 
   pub served : Asked s rays weights times told → Served s rays weights times told
-  unfolding wattsChecks
-  served a = sym (judges (goes-behind first own (none-fails (s .mesh) rays times told (a .sky)) (goes (agree (a .matched)) (goes (not-below (a .within)) (serves refl)))))
+  unfolding wattsChecks answered
+  served a =
+      let passes : none ≡ firstFailed own = judges (goes (agree (a .matched)) (goes (not-below (a .within)) (serves refl))) in
+      further first own ∙ ap (λ (r : Refusal). answered r numbered (firstFailed own)) (none-fails (s .mesh) rays times told (a .sky)) ∙ sym passes
 
   pub asked : Served s rays weights times told → Asked s rays weights times told
   unfolding wattsChecks
@@ -48,18 +48,14 @@ module _ (s : Lent) (rays : List Float) (weights : List ℕ) (times : List Float
       record { sky = passed (s .mesh) rays times told (b .0); matched = agreed (e .0); within = ltb-false _ _ (e .1 .0) }
 
   -- ---- the returns
-  pub watts-refused : (number at : ℕ) → firstFailed first ≡ numbered number at → outcome (Refused number at) times told ≡ watts s rays weights times told
-  unfolding watts wattsChecks
-  watts-refused number at p = ends (stops-before first own number at p refl)
+  -- what is first of the two judgements is the first check of all that fails
+  pub first-of : (a b c : Refusal) → a ≡ firstFailed first → b ≡ firstFailed own → c ≡ answered a numbered b → c ≡ firstFailed (wattsChecks s rays weights times told)
+  unfolding wattsChecks
+  first-of a b c p q e = e ∙ (λ i. answered (p i) numbered (q i)) ∙ sym (further first own)
 
-  module _ (on : firstFailed first ≡ none) where
-    pub watts-27 : (length weights ≡ rayCount rays → ⊥) → outcome (Refused 27 0) times told ≡ watts s rays weights times told
-    unfolding watts wattsChecks
-    watts-27 h = ends (goes-behind first own on (stops (differ h) refl))
-
-    pub watts-28 : length weights ≡ rayCount rays → most-rays < rayCount rays → outcome (Refused 28 0) times told ≡ watts s rays weights times told
-    unfolding watts wattsChecks
-    watts-28 e h = ends (goes-behind first own on (goes (agree e) (stops (below h) refl)))
+  pub watts-refused : (number at : ℕ) → firstFailed (wattsChecks s rays weights times told) ≡ numbered number at → outcome (Refused number at) times told ≡ watts s rays weights times told
+  unfolding watts answered
+  watts-refused number at p = ends (judged (numbered number at) (sym p) refl)
 
   abbrev timesLeft : List Float
   timesLeft = filled s rays (rayCount rays) times told .times

@@ -17,13 +17,16 @@ use Rattle.tree.specs.Lent.{Lent}
 use Rattle.sky.specs.declared.Place.{Place}
 use Rattle.walk.specs.Walk.{walk}
 use Rattle.sky.specs.Sky.{rayCount, placeOf, placeFor, toldOf, toldFor, timesFor, filled}
+use Rattle.watts.specs.declared.fraction.Terms.{Terms}
 use Rattle.watts.specs.declared.sums.Figures.{Figures}
 use Rattle.watts.specs.declared.Counted.{Counted}
 use Rattle.watts.specs.declared.Counted.the-variants.{Report, Refused}
+use Rattle.watts.specs.Share.{share}
 use Rattle.watts.specs.Watts.{figured, figures, outcomeFor, figuresFor, report, Outcome, watts}
 use Rattle.watts.specs.Cut.{Served, firstRays, otherRays, added, joined, Joined, Part, AreAll, Roomy, partsFigures, partsAnswer, partsTimes, partsTold, Together}
 use Rattle.watts.proofs.Weights.{figures-same, figures-cut}
 use Rattle.watts.proofs.Serving.{served, asked, watts-served}
+use Rattle.watts.proofs.Promises.{report-is}
 
 -- ---- a part's rays are the whole's
 vector-first : (xs : List Float) (n i : ℕ) → i + 2 < n → vectorAt (take n xs) i ≡ vectorAt xs i
@@ -162,6 +165,18 @@ module _ (s : Lent) (rays : List Float) (weights : List ℕ) (times : List Float
           told = told-of s rays times told weights S n refl ∙ cut-records s rays weights a in-range toldOf
               ∙ (λ i. sym (told-of s (firstRays a rays) times₁ told₁ (take a weights) F a n₁) i ++ sym (told-of s (otherRays a rays) times₂ told₂ (drop a weights) O (n - a) n₂) i);
         }
+
+-- Whatever three calls report: the four figures add up, and the share of the whole is the one that the added figures give
+module _ (s : Lent) (rays : List Float) (weights : List ℕ) (a : ℕ) (in-range : a ≤ rayCount rays) (times times₁ times₂ : List Float) (told told₁ told₂ : List ℕ) (f f₁ f₂ : Figures) (r r₁ r₂ : Terms) where
+  pub reports-add : watts s rays weights times told .answer ≡ Report f r → watts s (firstRays a rays) (take a weights) times₁ told₁ .answer ≡ Report f₁ r₁ → watts s (otherRays a rays) (drop a weights) times₂ told₂ .answer ≡ Report f₂ r₂
+      → (f ≡ added f₁ f₂) × (r ≡ share (f₁ .shaded + f₂ .shaded) (f₁ .«open» + f₂ .«open»))
+  unfolding added
+  reports-add e e₁ e₂ =
+      let w = report-is s rays weights times told f r e in
+      let w₁ = report-is s (firstRays a rays) (take a weights) times₁ told₁ f₁ r₁ e₁ in
+      let w₂ = report-is s (otherRays a rays) (drop a weights) times₂ told₂ f₂ r₂ e₂ in
+      let is : f ≡ added f₁ f₂ = sym (w .0) ∙ cut-figures s rays weights a in-range ∙ (λ i. added (w₁ .0 i) (w₂ .0 i)) in
+      (is, sym (w .1) ∙ ap (λ (g : Figures). share (g .shaded) (g .«open»)) is)
 
 -- Parts that are served make a whole that is, in room that suffices and with no more rays than are allowed
 module _ (s : Lent) (rays : List Float) (weights : List ℕ) (a : ℕ) (in-range : a ≤ rayCount rays) (times₁ times₂ : List Float) (told₁ told₂ : List ℕ) where

@@ -6,7 +6,7 @@ use lib.Dec.{ltb, eqb}
 use lib.ListN.{length, getD}
 use lib.Ieee.{Float}
 use Rattle.lent.specs.Limits.{most-rays}
-use Rattle.lent.specs.Ladder.{Check, check, unless}
+use Rattle.lent.specs.Ladder.{Refusal, none, numbered, Check, check, unless}
 use Rattle.tree.specs.Lent.{Lent}
 use Rattle.sky.specs.Sky.{rayCount, placeFor, filled, skyChecks}
 use Rattle.watts.specs.declared.sums.Figures.{Figures}
@@ -42,6 +42,11 @@ abbrev pub figuresFor : Lent → List Float → List ℕ → Figures
 figuresFor s rays weights = figures (outcomeFor s rays) weights (rayCount rays)
 
 -- ---- the call
+-- its answer: a report, or the refusal of the whole call
+unfoldable pub wattsRefusal : Counted → Refusal
+wattsRefusal (Report f r) = none
+wattsRefusal (Refused number at) = numbered number at
+
 -- the answer, and what the lent answer room holds at the end
 pub record Outcome : Type 0 where
   pub answer : Counted
@@ -55,13 +60,13 @@ outcome answer times told = record { answer = answer; times = times; told = told
 abbrev pub report : Figures → Counted
 report f = Report f (share (f .shaded) (f .«open»))
 
--- Rule Q4: the sky's checks, then weights and rays that differ in number (27), then too many rays (28)
+-- Rule Q4: so many weights for so many rays: they differ in number (27), or the rays are too many (28)
+abbrev pub weightChecks : ℕ → ℕ → List Check
+weightChecks weights rays = check (not (eqb weights rays)) 27 0 ∷ check (ltb most-rays rays) 28 0 ∷ []
+
+-- Rule Q4: the sky's checks, then those
 unfoldable pub wattsChecks : Lent → List Float → List ℕ → List Float → List ℕ → List Check
-wattsChecks s rays weights times told =
-    skyChecks (s .mesh) rays times told
-    ++ (check (not (eqb (length weights) (rayCount rays))) 27 0
-    ∷ check (ltb most-rays (rayCount rays)) 28 0
-    ∷ [])
+wattsChecks s rays weights times told = skyChecks (s .mesh) rays times told ++ weightChecks (length weights) (rayCount rays)
 
 -- Rule Q4: where none fails the sky's places are filled, and the watts told; else nothing is written
 unfoldable pub watts : Lent → List Float → List ℕ → List Float → List ℕ → Outcome

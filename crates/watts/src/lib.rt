@@ -8,14 +8,39 @@ pub use fraction::share;
 use sky::Filled;
 pub use sums::Figures;
 ghost use mathlib.Core.Path.{_≡_};
+ghost use Rattle.lent.specs.Ladder.{numbered, firstFailed, answered};
 ghost use Rattle.tree.specs.Lent.{lent};
-ghost use Rattle.watts.specs.Watts.{outcome, report, watts};
+ghost use Rattle.sky.specs.Sky.{skyRefusal};
+ghost use Rattle.watts.specs.Watts.{outcome, report, weightChecks, watts};
 
 // What the call answers: the four figures, in watts, and shaded over shaded and open together; or the whole call is refused, with a number
 // and `at`.
 pub enum Counted {
     Report { figures: Figures, share: Terms },
     Refused { number: u32, at: u64 },
+}
+
+// Refusals of so many weights for so many rays: 27 they differ in number; 28 more than 1,048,576 rays.
+fn weighable(weights: usize, rays: usize) -> Filled
+    ensures { λ r. ⌜ skyRefusal r ≡ firstFailed (weightChecks weights rays) ⌝ }
+{
+    if weights != rays {
+        return Filled::Refused { number: 27, at: 0 };
+    }
+    if lent::MOST_RAYS < rays {
+        return Filled::Refused { number: 28, at: 0 };
+    }
+    Filled::Places
+}
+
+// The first of two that is a refusal.
+fn first(one: Filled, other: Filled) -> Filled
+    ensures { λ r. ⌜ skyRefusal r ≡ answered (skyRefusal one) numbered (skyRefusal other) ⌝ }
+{
+    match one {
+        Filled::Refused { number, at } => Filled::Refused { number, at },
+        Filled::Places => other,
+    }
 }
 
 // The figures, with the share that they give.
@@ -42,16 +67,12 @@ pub fn watts(
 ) -> Counted
     ensures { λ r. ⌜ outcome r (now (times .exit)) (now (told .exit)) ≡ watts (lent (now (triangles .entry)) (now (index .entry)) (now (boxes .entry)) (now (links .entry))) (now (rays .entry)) (now (weights .entry)) (now (times .entry)) (now (told .entry)) ⌝ }
 {
-    let answer = sky::judge(triangles, rays, times, told);
+    let judged = sky::judge(triangles, rays, times, told);
+    let count = rays.len() / 6;
+    let own = weighable(weights.len(), count);
+    let answer = first(judged, own);
     if let Filled::Refused { number, at } = answer {
         return Counted::Refused { number, at };
-    }
-    let count = rays.len() / 6;
-    if weights.len() != count {
-        return Counted::Refused { number: 27, at: 0 };
-    }
-    if lent::MOST_RAYS < count {
-        return Counted::Refused { number: 28, at: 0 };
     }
     sky::sky(triangles, index, boxes, links, rays, times, told);
     let figures = sums::summed(told, weights, count);

@@ -19,10 +19,13 @@ fn weighed(sums: Figures, outcome: u64, weight: u32) -> Figures
     ensures { λ r. ⌜ r ≡ weighed sums outcome weight ⌝ }
 {
     let watts = weight as u64;
+    let shaded = sums.shaded + watts;
+    let open = sums.open + watts;
+    let refused = sums.refused + watts;
     let total = sums.total + watts;
     if outcome == 100 {
         return Figures {
-            shaded: sums.shaded + watts,
+            shaded,
             open: sums.open,
             refused: sums.refused,
             total,
@@ -31,7 +34,7 @@ fn weighed(sums: Figures, outcome: u64, weight: u32) -> Figures
     if outcome == 0 {
         return Figures {
             shaded: sums.shaded,
-            open: sums.open + watts,
+            open,
             refused: sums.refused,
             total,
         };
@@ -39,7 +42,7 @@ fn weighed(sums: Figures, outcome: u64, weight: u32) -> Figures
     Figures {
         shaded: sums.shaded,
         open: sums.open,
-        refused: sums.refused + watts,
+        refused,
         total,
     }
 }
