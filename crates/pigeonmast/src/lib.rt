@@ -250,9 +250,7 @@ pub extern "C" fn pigeonmast_sky(
 ) -> u32
     ensures { λ r. ⌜ sky r (now (at .exit)) (now (times .exit)) (now (told .exit)) ≡ skyReport (filled (lent (now (triangles .entry)) (now (materials .entry)) (now (index .entry)) (now (boxes .entry)) (now (links .entry))) (now (rays .entry)) (now (times .entry)) (now (told .entry))) ⌝ }
 {
-    let answer = sky::sky(
-        triangles, materials, index, boxes, links, rays, times, told,
-    );
+    let answer = sky::sky(triangles, materials, index, boxes, links, rays, times, told);
     tell_sky(answer, at)
 }
 

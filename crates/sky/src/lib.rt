@@ -146,7 +146,15 @@ pub fn sky(
         return Filled::Refused { number: 13, at: 0 };
     }
     fill(
-        triangles, materials, index, boxes, links, rays, count, times, told,
+        triangles,
+        materials,
+        index,
+        boxes,
+        links,
+        rays,
+        count,
+        times,
+        told,
     );
     Filled::Places
 }
