@@ -18,7 +18,7 @@ use Rattle.triangle.specs.declared.Hit.{Hit}
 use Rattle.triangle.specs.declared.Found.the-variants.{At, Nothing}
 use Rattle.triangle.specs.Mesh.{triangleAt, admittedTriangle}
 use Rattle.tree.specs.declared.Node.{Node}
-use Rattle.tree.specs.Lent.{Mesh, Lent, nodeCount}
+use Rattle.tree.specs.Lent.{Mesh, Lists, Lent, nodeCount}
 use Rattle.tree.specs.Node.{leftOrFirst, nodeOf, sound, leftOf, rightOf}
 use Rattle.walk.specs.declared.tally.Tally.{Tally}
 use Rattle.walk.specs.declared.turn.Turn.{Turn}
@@ -81,14 +81,12 @@ parted nodes i x besides =
     turn-if (leb nodes (leftOf i x) || leb nodes (rightOf i x)) _ _ (refuse 9 i (omega arith, omega arith))
     (turn-if (ltb most-pending (besides + 2)) _ _ (refuse 11 i (omega arith, omega arith)) (two (leftOf i x) (rightOf i x)))
 
-visited : (s : Lent) (r : Ray) (i besides : ℕ) (a : Tally) → Turned (visit s r i besides a)
+visited : (mesh : List Float) (s : Lists) (r : Ray) (i besides : ℕ) (a : Tally) → Turned (visit mesh s r i besides a)
 unfolding visit judged opened
-visited s r i besides a =
-    let x = nodeOf (s .tree) i in
+visited mesh s r i besides a =
+    let x = nodeOf s i in
     turn-if (sound x) _ _
-    (turn-if (passes r (x .bounds)) _ _
-    (turn-if (eqb (x .kind) 1) _ _ (leafed (s .mesh .triangles) (s .tree .index) r i x a) (parted (nodeCount (s .tree .links)) i x besides))
-    missed)
+    (turn-if (passes r (x .bounds)) _ _ (turn-if (eqb (x .kind) 1) _ _ (leafed mesh (s .index) r i x a) (parted (nodeCount (s .links)) i x besides)) missed)
     (refuse 9 i (omega arith, omega arith))
 
 -- ---- the walk
@@ -103,7 +101,7 @@ unfolding run
 ran s r zero [] a = finished (s .mesh) r a
 ran s r zero (i ∷ rest) a = answer 12 i (omega arith, omega arith)
 ran s r (suc left) [] a = finished (s .mesh) r a
-ran s r (suc left) (i ∷ rest) a = next (visit s r i (length rest) (boxed a)) rest (boxed a) (run s r left) (visited s r i (length rest) (boxed a)) (ran s r left)
+ran s r (suc left) (i ∷ rest) a = next (visit (s .mesh .triangles) (s .tree) r i (length rest) (boxed a)) rest (boxed a) (run s r left) (visited (s .mesh .triangles) (s .tree) r i (length rest) (boxed a)) (ran s r left)
 
 laddered : (checks : List Check) (served : Told) → Every (λ c. Own (c .number)) checks → Numbered served → Numbered (unless checks refused served)
 unfolding unless firstFailed answered
@@ -117,7 +115,7 @@ laddered (c ∷ cs) served each q = go (c .fails) (laddered cs served (each .1) 
 walk-numbered : (s : Lent) (r : Ray) → Numbered (walk s r)
 unfolding walk
 walk-numbered s r =
-    laddered _ _ ((omega arith, omega arith), ((omega arith, omega arith), ((omega arith, omega arith), ((omega arith, omega arith), tt))))
+    laddered _ _ ((omega arith, omega arith), ((omega arith, omega arith), ((omega arith, omega arith), ((omega arith, omega arith), ((omega arith, omega arith), tt)))))
     (ran s r (nodeCount (s .tree .links)) (0 ∷ []) start)
 
 -- ---- what a ray is weighed by

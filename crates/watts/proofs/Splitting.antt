@@ -109,9 +109,9 @@ module _ (s : Lent) (rays : List Float) (times : List Float) (told : List ℕ) w
   unfolding filled
   times-read n m e = take-at (records (timesFor s rays) n) (drop n times) m (omega (arith, records-length (timesFor s rays) 1 (λ k. refl) n)) ∙ ap (records (timesFor s rays)) e
 
-  told-read : (n m : ℕ) → n ≡ m → take (m * 4) (filled s rays n times told .told) ≡ records (toldFor s rays) m
+  told-read : (n m : ℕ) → n ≡ m → take (m * 5) (filled s rays n times told .told) ≡ records (toldFor s rays) m
   unfolding filled
-  told-read n m e = take-at (records (toldFor s rays) n) (drop (n * 4) told) (m * 4) (omega (arith, records-length (toldFor s rays) 4 (λ k. refl) n)) ∙ ap (records (toldFor s rays)) e
+  told-read n m e = take-at (records (toldFor s rays) n) (drop (n * 5) told) (m * 5) (omega (arith, records-length (toldFor s rays) 5 (λ k. refl) n)) ∙ ap (records (toldFor s rays)) e
 
   module _ (weights : List ℕ) (S : Served s rays weights times told) where
     pub answer-of : watts s rays weights times told .answer ≡ report (figuresFor s rays weights)
@@ -120,8 +120,8 @@ module _ (s : Lent) (rays : List Float) (times : List Float) (told : List ℕ) w
     pub times-of : (m : ℕ) → rayCount rays ≡ m → take m (watts s rays weights times told .times) ≡ records (timesFor s rays) m
     times-of m e = ap (λ (o : Outcome). take m (o .times)) (sym (watts-served s rays weights times told S)) ∙ times-read (rayCount rays) m e
 
-    pub told-of : (m : ℕ) → rayCount rays ≡ m → take (m * 4) (watts s rays weights times told .told) ≡ records (toldFor s rays) m
-    told-of m e = ap (λ (o : Outcome). take (m * 4) (o .told)) (sym (watts-served s rays weights times told S)) ∙ told-read (rayCount rays) m e
+    pub told-of : (m : ℕ) → rayCount rays ≡ m → take (m * 5) (watts s rays weights times told .told) ≡ records (toldFor s rays) m
+    told-of m e = ap (λ (o : Outcome). take (m * 5) (o .told)) (sym (watts-served s rays weights times told S)) ∙ told-read (rayCount rays) m e
 
 reports-joined : (f g : Figures) → report (added f g) ≡ joined (report f) (report g)
 unfolding joined
@@ -129,24 +129,24 @@ reports-joined f g = refl
 
 -- A call that is served, cut at ray a: the parts are served too, in any room that suffices, and their figures and places are the whole's
 module _ (s : Lent) (rays : List Float) (weights : List ℕ) (times : List Float) (told : List ℕ) (S : Served s rays weights times told) (a : ℕ) (in-range : a ≤ rayCount rays) where
-  module _ (times₁ : List Float) (told₁ : List ℕ) (timed : a ≤ length times₁) (roomy : a * 4 ≤ length told₁) where
+  module _ (times₁ : List Float) (told₁ : List ℕ) (timed : a ≤ length times₁) (roomy : a * 5 ≤ length told₁) where
     pub first-served : Served s (firstRays a rays) (take a weights) times₁ told₁
     first-served =
         let n = first-count s rays weights a in-range in
         let A = asked s rays weights times told S in
         served s (firstRays a rays) (take a weights) times₁ told₁ (record {
-          sky = record { whole = A .sky .whole; few = A .sky .few; sixes = omega (arith, length-take (a * 6) rays); timed = omega (arith, n); roomy = omega (arith, n) };
+          sky = record { whole = A .sky .whole; few = A .sky .few; labelled = A .sky .labelled; sixes = omega (arith, length-take (a * 6) rays); timed = omega (arith, n); roomy = omega (arith, n) };
           matched = length-take-le a weights (omega (arith, A .matched)) ∙ sym n;
           within = omega (arith, n, A .within);
         })
 
-  module _ (times₂ : List Float) (told₂ : List ℕ) (timed : rayCount rays - a ≤ length times₂) (roomy : (rayCount rays - a) * 4 ≤ length told₂) where
+  module _ (times₂ : List Float) (told₂ : List ℕ) (timed : rayCount rays - a ≤ length times₂) (roomy : (rayCount rays - a) * 5 ≤ length told₂) where
     pub others-served : Served s (otherRays a rays) (drop a weights) times₂ told₂
     others-served =
         let n = other-count s rays weights a in-range in
         let A = asked s rays weights times told S in
         served s (otherRays a rays) (drop a weights) times₂ told₂ (record {
-          sky = record { whole = A .sky .whole; few = A .sky .few; sixes = omega (arith, length-drop (a * 6) rays, A .sky .sixes); timed = omega (arith, n); roomy = omega (arith, n) };
+          sky = record { whole = A .sky .whole; few = A .sky .few; labelled = A .sky .labelled; sixes = omega (arith, length-drop (a * 6) rays, A .sky .sixes); timed = omega (arith, n); roomy = omega (arith, n) };
           matched = length-drop a weights ∙ ap (λ (k : ℕ). k - a) (A .matched) ∙ sym n;
           within = omega (arith, n, A .within);
         })
@@ -180,7 +180,7 @@ module _ (s : Lent) (rays : List Float) (weights : List ℕ) (a : ℕ) (in-range
 
 -- Parts that are served make a whole that is, in room that suffices and with no more rays than are allowed
 module _ (s : Lent) (rays : List Float) (weights : List ℕ) (a : ℕ) (in-range : a ≤ rayCount rays) (times₁ times₂ : List Float) (told₁ told₂ : List ℕ) where
-  pub whole-served : Served s (firstRays a rays) (take a weights) times₁ told₁ → Served s (otherRays a rays) (drop a weights) times₂ told₂ → (times : List Float) (told : List ℕ) → rayCount rays ≤ length times → rayCount rays * 4 ≤ length told
+  pub whole-served : Served s (firstRays a rays) (take a weights) times₁ told₁ → Served s (otherRays a rays) (drop a weights) times₂ told₂ → (times : List Float) (told : List ℕ) → rayCount rays ≤ length times → rayCount rays * 5 ≤ length told
       → rayCount rays ≤ most-rays → Served s rays weights times told
   whole-served F O times told timed roomy within =
       let n = first-count s rays weights a in-range in
@@ -188,7 +188,7 @@ module _ (s : Lent) (rays : List Float) (weights : List ℕ) (a : ℕ) (in-range
       let A = asked s (firstRays a rays) (take a weights) times₁ told₁ F in
       let B = asked s (otherRays a rays) (drop a weights) times₂ told₂ O in
       served s rays weights times told (record {
-        sky = record { whole = A .sky .whole; few = A .sky .few; sixes = omega (arith, length-drop (a * 6) rays, B .sky .sixes); timed = timed; roomy = roomy };
+        sky = record { whole = A .sky .whole; few = A .sky .few; labelled = A .sky .labelled; sixes = omega (arith, length-drop (a * 6) rays, B .sky .sixes); timed = timed; roomy = roomy };
         matched = omega (arith, length-take a weights, length-drop a weights, A .matched, B .matched, n, m);
         within = within;
       })
@@ -214,7 +214,7 @@ parts-together s rays weights times told [] S all room =
     record {
       answer = answer-of s rays times told weights S ∙ ap report (figures-none s rays weights all);
       times = ap (λ (n : ℕ). take n (watts s rays weights times told .times)) all;
-      told = ap (λ (n : ℕ). take (n * 4) (watts s rays weights times told .told)) all;
+      told = ap (λ (n : ℕ). take (n * 5) (watts s rays weights times told .told)) all;
     }
 parts-together s rays weights times told (p ∷ ps) S all room =
     let a = p .count in
@@ -228,5 +228,5 @@ parts-together s rays weights times told (p ∷ ps) S all room =
     record {
       answer = cut .answer ∙ ap (λ (r : Counted). joined (watts s (firstRays a rays) (take a weights) (p .times) (p .told) .answer) r) (rest .answer);
       times = cut .times ∙ ap (λ (l : List Float). take a (watts s (firstRays a rays) (take a weights) (p .times) (p .told) .times) ++ l) (ap (λ (m : ℕ). take m (o .times)) (sym n) ∙ rest .times);
-      told = cut .told ∙ ap (λ (l : List ℕ). take (a * 4) (watts s (firstRays a rays) (take a weights) (p .times) (p .told) .told) ++ l) (ap (λ (m : ℕ). take (m * 4) (o .told)) (sym n) ∙ rest .told);
+      told = cut .told ∙ ap (λ (l : List ℕ). take (a * 5) (watts s (firstRays a rays) (take a weights) (p .times) (p .told) .told) ++ l) (ap (λ (m : ℕ). take (m * 5) (o .told)) (sym n) ∙ rest .told);
     }

@@ -102,10 +102,10 @@ figures-room f w n s e m h =
     rw e (omega arith, omega arith, omega arith, omega arith)
 
 -- one place more
-pub told-step : (told weights : List ℕ) (k : ℕ) (s r : Figures) → s ≡ figures (outcomeAt told) weights k → r ≡ weighed s (getD told (k * 4) 0) (getD weights k 0)
+pub told-step : (told weights : List ℕ) (k : ℕ) (s r : Figures) → s ≡ figures (outcomeAt told) weights k → r ≡ weighed s (getD told (k * 5) 0) (getD weights k 0)
     → r ≡ figures (outcomeAt told) weights (k + 1)
 unfolding outcomeAt
-told-step told weights k s r p q = q ∙ ap (λ (z : Figures). weighed z (getD told (k * 4) 0) (getD weights k 0)) p ∙ figures-more (outcomeAt told) weights k
+told-step told weights k s r p q = q ∙ ap (λ (z : Figures). weighed z (getD told (k * 5) 0) (getD weights k 0)) p ∙ figures-more (outcomeAt told) weights k
 
 pub none-yet : (f : ℕ → ℕ) (w : List ℕ) → figured 0 0 0 0 ≡ figures f w 0
 unfolding figures

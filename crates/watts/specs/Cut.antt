@@ -38,7 +38,7 @@ joined (Refused number at) other = Refused number at
 pub record Joined (n a : ℕ) (whole first others : Outcome) : Type 0 where
   pub answer : whole .answer ≡ joined (first .answer) (others .answer)
   pub times : take n (whole .times) ≡ take a (first .times) ++ take (n - a) (others .times)
-  pub told : take (n * 4) (whole .told) ≡ take (a * 4) (first .told) ++ take ((n - a) * 4) (others .told)
+  pub told : take (n * 5) (whole .told) ≡ take (a * 5) (first .told) ++ take ((n - a) * 5) (others .told)
 
 -- ---- any number of parts
 -- how many rays a part has, and the answer room that its call is lent
@@ -55,7 +55,7 @@ AreAll (p ∷ ps) n = (p .count ≤ n) × AreAll ps (n - p .count)
 -- each in room that suffices
 unfoldable pub Roomy : List Part → Type 0
 Roomy [] = Unit {0}
-Roomy (p ∷ ps) = (p .count ≤ length (p .times)) × (p .count * 4 ≤ length (p .told)) × Roomy ps
+Roomy (p ∷ ps) = (p .count ≤ length (p .times)) × (p .count * 5 ≤ length (p .told)) × Roomy ps
 
 -- the figures of the parts, added up, of however many rays
 unfoldable pub partsFigures : Lent → List Float → List ℕ → List Part → Figures
@@ -78,10 +78,10 @@ module _ (s : Lent) where
 
   unfoldable pub partsTold : List Float → List ℕ → List Part → List ℕ
   partsTold rays weights [] = []
-  partsTold rays weights (p ∷ ps) = take (p .count * 4) (call rays weights p .told) ++ partsTold (otherRays (p .count) rays) (drop (p .count) weights) ps
+  partsTold rays weights (p ∷ ps) = take (p .count * 5) (call rays weights p .told) ++ partsTold (otherRays (p .count) rays) (drop (p .count) weights) ps
 
 -- a call beside the calls over any parts of its rays
 pub record Together (s : Lent) (rays : List Float) (weights : List ℕ) (parts : List Part) (whole : Outcome) : Type 0 where
   pub answer : whole .answer ≡ partsAnswer s rays weights parts
   pub times : take (rayCount rays) (whole .times) ≡ partsTimes s rays weights parts
-  pub told : take (rayCount rays * 4) (whole .told) ≡ partsTold s rays weights parts
+  pub told : take (rayCount rays * 5) (whole .told) ≡ partsTold s rays weights parts

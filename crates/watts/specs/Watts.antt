@@ -36,7 +36,7 @@ outcomeFor s rays k = placeFor s rays k .outcome
 
 -- the same, as a caller reads it in the answer room
 unfoldable pub outcomeAt : List ℕ → ℕ → ℕ
-outcomeAt told k = getD told (k * 4) 0
+outcomeAt told k = getD told (k * 5) 0
 
 abbrev pub figuresFor : Lent → List Float → List ℕ → Figures
 figuresFor s rays weights = figures (outcomeFor s rays) weights (rayCount rays)

@@ -57,6 +57,7 @@ fn reported(figures: Figures) -> Counted
 // order, and then writes nothing: as `sky::judge` says; 27 weights and rays differ in number; 28 more than 1,048,576 rays.
 pub fn watts(
     triangles: &[f64],
+    materials: &[u32],
     index: &[u32],
     boxes: &[f64],
     links: &[u32],
@@ -65,16 +66,16 @@ pub fn watts(
     times: &mut [f64],
     told: &mut [u64],
 ) -> Counted
-    ensures { λ r. ⌜ outcome r (now (times .exit)) (now (told .exit)) ≡ watts (lent (now (triangles .entry)) (now (index .entry)) (now (boxes .entry)) (now (links .entry))) (now (rays .entry)) (now (weights .entry)) (now (times .entry)) (now (told .entry)) ⌝ }
+    ensures { λ r. ⌜ outcome r (now (times .exit)) (now (told .exit)) ≡ watts (lent (now (triangles .entry)) (now (materials .entry)) (now (index .entry)) (now (boxes .entry)) (now (links .entry))) (now (rays .entry)) (now (weights .entry)) (now (times .entry)) (now (told .entry)) ⌝ }
 {
-    let judged = sky::judge(triangles, rays, times, told);
+    let judged = sky::judge(triangles, materials, rays, times, told);
     let count = rays.len() / 6;
     let own = weighable(weights.len(), count);
     let answer = first(judged, own);
     if let Filled::Refused { number, at } = answer {
         return Counted::Refused { number, at };
     }
-    sky::sky(triangles, index, boxes, links, rays, times, told);
+    sky::sky(triangles, materials, index, boxes, links, rays, times, told);
     let figures = sums::summed(told, weights, count);
     reported(figures)
 }

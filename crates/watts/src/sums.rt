@@ -49,7 +49,7 @@ fn weighed(sums: Figures, outcome: u64, weight: u32) -> Figures
 
 // The figures of the first n places, with the weights of their rays. No sum wraps: n weights below 2^32 are below 2^52 together.
 pub fn summed(told: &[u64], weights: &[u32], n: usize) -> Figures
-    requires { ⌜ (n * 4 ≤ length (now told)) × (n ≤ length (now weights)) × (n ≤ most-rays) ⌝ }
+    requires { ⌜ (n * 5 ≤ length (now told)) × (n ≤ length (now weights)) × (n ≤ most-rays) ⌝ }
     ensures { λ r. ⌜ r ≡ figures (outcomeAt (now (told .entry))) (now (weights .entry)) n ⌝ }
 {
     let mut sums = Figures {
@@ -60,7 +60,7 @@ pub fn summed(told: &[u64], weights: &[u32], n: usize) -> Figures
     };
     let mut k: usize = 0;
     while k < n {
-        let outcome = told[k * 4];
+        let outcome = told[k * 5];
         let weight = weights[k];
         sums = weighed(sums, outcome, weight);
         k += 1;

@@ -21,26 +21,40 @@ returns-3 c = judges (goes (agree (c .before .before .if1 .left)) (goes (not-bel
 returns-4 : tie.Need-returns-4
 unfolding skyRefusal skyChecks
 returns-4 c =
-    let m = c .before .before in
-    judges (goes (agree (m .before .if1 .left)) (goes (not-below (m .if2 .left)) (goes (agree (c .before .if3 .left)) (stops (below (c .if4 .taken)) refl))))
+    let l = c .before in
+    let m = l .before in
+    judges (goes (agree (m .before .if1 .left)) (goes (not-below (m .if2 .left)) (goes (agree (l .if3 .left)) (stops (differ (c .if4 .taken)) refl))))
 
 returns-5 : tie.Need-returns-5
 unfolding skyRefusal skyChecks
 returns-5 c =
-    let r = c .before .before in
-    let m = r .before in
+    let l = c .before .before in
+    let m = l .before in
     judges
     (goes (agree (m .before .if1 .left))
-    (goes (not-below (m .if2 .left)) (goes (agree (r .if3 .left)) (goes (not-below (c .before .if4 .left)) (stops (below (c .if5 .taken)) refl)))))
+    (goes (not-below (m .if2 .left)) (goes (agree (l .if3 .left)) (goes (agree (c .before .if4 .left)) (stops (below (c .if5 .taken)) refl)))))
 
 returns-6 : tie.Need-returns-6
 unfolding skyRefusal skyChecks
 returns-6 c =
     let r = c .before .before in
-    let m = r .before in
+    let l = r .before in
+    let m = l .before in
     judges
     (goes (agree (m .before .if1 .left))
-    (goes (not-below (m .if2 .left)) (goes (agree (r .if3 .left)) (goes (not-below (c .before .if4 .left)) (goes (not-below (c .if5 .left)) (serves refl))))))
+    (goes (not-below (m .if2 .left))
+    (goes (agree (l .if3 .left)) (goes (agree (r .if4 .left)) (goes (not-below (c .before .if5 .left)) (stops (below (c .if6 .taken)) refl))))))
+
+returns-7 : tie.Need-returns-7
+unfolding skyRefusal skyChecks
+returns-7 c =
+    let r = c .before .before in
+    let l = r .before in
+    let m = l .before in
+    judges
+    (goes (agree (m .before .if1 .left))
+    (goes (not-below (m .if2 .left))
+    (goes (agree (l .if3 .left)) (goes (agree (r .if4 .left)) (goes (not-below (c .before .if5 .left)) (goes (not-below (c .if6 .left)) (serves refl)))))))
 
 pub judge-spec : {M : Type 1} → statement M
-judge-spec = tie.close (tie.spec returns returns-2 returns-3 returns-4 (λ c. search needs) returns-5 returns-6)
+judge-spec = tie.close (tie.spec returns returns-2 returns-3 returns-4 returns-5 (λ c. search needs) returns-6 returns-7)

@@ -17,10 +17,10 @@ summed-requires c κs =
     let y = c .before .before .before .before .before in
     let e = y .before .before .before in
     let f = e .before .before in
-    let x = f .before .before .before .before .before .before .before .before .before .before .before .before .before .args in
-    let s = lent (x .triangles .now) (x .index .now) (x .boxes .now) (x .links .now) in
+    let x = f .before .before .before .before .before .before .before .before .before .before .before .before .before .before .args in
+    let s = lent (x .triangles .now) (x .materials .now) (x .index .now) (x .boxes .now) (x .links .now) in
     let a = asked s _ (x .weights .now) _ _ (judged-none _ _ (first-of s _ (x .weights .now) _ _ _ _ _ (f .before .before .judge .ensures) (f .before .weighable .ensures) (f .first .ensures)) (e .enum-told .given .1)) in
-    (omega (arith, a .sky .roomy, y .sky .kept .1 .1 .1 .1 .1 .1 .0), omega (arith, a .matched), a .within)
+    (omega (arith, a .sky .roomy, y .sky .kept .1 .1 .1 .1 .1 .1 .1 .0), omega (arith, a .matched), a .within)
 
 returns-2 : tie.Need-returns-2
 returns-2 c =
