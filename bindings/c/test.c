@@ -92,5 +92,29 @@ int main(void)
     ANSWERS(pigeonmast_normals(mesh, 60, at), 0);
     HOLDS(at, 0);
     HOLDS(mesh, 0, 0, 0, 3, 0, 0, 0, 3, 0, 0, 0, 1, 16, 0, 0, 19, 0, 0, 16, 3, 0, 0, 0, 1);
+
+    /* A14: the watts of a sky, and the share of watts that were added. */
+    const uint32_t weights[3] = {600, 400, 50};
+    const double three[18] = {17, 1, 1, 0, 0, -1, 25, 1, 1, 0, 0, -1, 17, 1, 1, 0, 0, -3}; /* P11, P12, refused 7 */
+    uint64_t report[6] = {9, 9, 9, 9, 9, 9}, room[15], share[2];
+    times[0] = room[0] = at[0] = 9;
+    ANSWERS(pigeonmast_watts(TREE, three, 17, weights, 2, times, 0, room, 0, report, at), PIGEONMAST_RAY_NUMBERS);
+    ANSWERS(pigeonmast_watts(TREE, three, 18, weights, 2, times, 2, room, 15, report, at), PIGEONMAST_ANSWER_ROOM);
+    ANSWERS(pigeonmast_watts(TREE, three, 18, weights, 2, times, 3, room, 15, report, at), PIGEONMAST_WEIGHTS_DIFFER);
+    HOLDS(report, 9, 9, 9, 9, 9, 9);
+    HOLDS(times, 9);
+    HOLDS(room, 9);
+    HOLDS(at, 0);
+    at[0] = 9;
+    ANSWERS(pigeonmast_watts(TREE, three, 18, weights, 3, times, 3, room, 15, report, at), 0);
+    HOLDS(report, 600, 400, 50, 1050, 3, 5);
+    HOLDS(times, 1, 0, 0);
+    HOLDS(at, 0);
+    ANSWERS(pigeonmast_share(0, 0, share), 0);
+    HOLDS(share, 0, 1);
+    ANSWERS(pigeonmast_share(UINT64_MAX, UINT64_MAX, share), 0);
+    HOLDS(share, 1, 2);
+    ANSWERS(pigeonmast_share(UINT64_MAX, 1, share), 0);
+    HOLDS(share, 0, 0);
     return differ;
 }

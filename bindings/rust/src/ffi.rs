@@ -73,6 +73,8 @@ extern "C" {
     pub fn pigeonmast_watts(
         triangles: *const f64,
         triangles_len: usize,
+        materials: *const u32,
+        materials_len: usize,
         index: *const u32,
         index_len: usize,
         boxes: *const f64,

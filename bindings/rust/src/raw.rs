@@ -220,13 +220,13 @@ pub fn normals(triangles: &mut [f64], told: &mut [u64; 1]) -> u32 {
 /// unchanged.
 ///
 /// ```
-/// let (mut times, mut told) = ([9.0; 2], [9; 8]);
+/// let (mut times, mut told) = ([9.0; 1], [9; 5]);
 /// let (mut report, mut at) = ([9; 6], [9]);
 /// // No nodes at all: each ray is refused, by 8.
 /// let rays = [0.0, 0.0, 0.0, 0.0, 0.0, 1.0];
 /// let watts = [40];
 /// let answer = pigeonmast::raw::watts(
-///     &[], &[], &[], &[], &rays, &watts, &mut times, &mut told, &mut report, &mut at,
+///     &[], &[], &[], &[], &[], &rays, &watts, &mut times, &mut told, &mut report, &mut at,
 /// );
 /// assert_eq!((answer, at), (0, [0]));
 /// assert_eq!(report, [0, 0, 40, 40, 0, 1]);
@@ -234,6 +234,7 @@ pub fn normals(triangles: &mut [f64], told: &mut [u64; 1]) -> u32 {
 #[allow(clippy::too_many_arguments)]
 pub fn watts(
     triangles: &[f64],
+    materials: &[u32],
     index: &[u32],
     boxes: &[f64],
     links: &[u32],
@@ -249,6 +250,8 @@ pub fn watts(
         ffi::pigeonmast_watts(
             triangles.as_ptr(),
             triangles.len(),
+            materials.as_ptr(),
+            materials.len(),
             index.as_ptr(),
             index.len(),
             boxes.as_ptr(),
