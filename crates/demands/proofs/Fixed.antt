@@ -96,7 +96,7 @@ use Rattle.builder.proofs.build.Reads as builder-build
 use Rattle.walk.proofs.walk.Reads as walk-walk
 use Rattle.sky.proofs.judge.Reads as sky-judge
 use Rattle.sky.proofs.sky.Reads as sky-sky
-use Rattle.watts.proofs.fraction.share.Reads as watts-share
+use Rattle.watts.proofs.share.Reads as watts-share
 use Rattle.watts.proofs.watts.Reads as watts-watts
 
 -- the calls of `float`
