@@ -31,6 +31,9 @@
 //! [`Bvh::watts`] weighs them too, and tells a [`Report`] of the watts that are
 //! shaded.
 //!
+//! `material_id` stands not in a [`Triangle`] but beside it: [`Bvh::with_materials`]
+//! gives each triangle one, and every hit tells the material that was struck.
+//!
 //! [`Triangle::new`] works a normal out, [`refill_normals`] those of a whole mesh.
 //!
 //! [`raw`] has the calls of the library as they stand, over lent slices, and says

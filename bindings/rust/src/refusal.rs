@@ -1,6 +1,8 @@
 use std::error::Error;
 use std::fmt;
 
+use crate::raw;
+
 /// Why a call was refused, or one of its rays: the table of refusals in
 /// docs/RULES.md, by name. More names may come with later calls.
 #[derive(Clone, Copy, Debug, PartialEq, Eq, Hash)]
@@ -59,6 +61,8 @@ pub enum Refusal {
     AnswerRoom,
     /// 14: the rays' numbers do not come in sixes.
     RayNumbers,
+    /// 18: the materials are not one for each triangle.
+    MaterialList,
     /// 27: there are more weights than rays, or fewer.
     WeightsDiffer,
     /// 28: there are more than 1,048,576 rays to be weighed.
@@ -89,6 +93,7 @@ impl Refusal {
             12 => Self::TooManyBoxTests { node: at },
             13 => Self::AnswerRoom,
             14 => Self::RayNumbers,
+            18 => Self::MaterialList,
             27 => Self::WeightsDiffer,
             28 => Self::TooManyRays,
             _ => Self::Unknown { number, at },
@@ -113,6 +118,7 @@ impl Refusal {
             Self::TooManyBoxTests { .. } => 12,
             Self::AnswerRoom => 13,
             Self::RayNumbers => 14,
+            Self::MaterialList => 18,
             Self::WeightsDiffer => 27,
             Self::TooManyRays => 28,
             Self::Unknown { number, .. } => *number,
@@ -183,11 +189,17 @@ impl fmt::Display for Refusal {
                 f,
                 "more boxes would be tested than there are nodes, at node {node}; some node is reached twice: build the tree again"
             ),
-            Self::AnswerRoom => f.write_str(
-                "the answer room is too short; lend one number of times and four of told for each ray",
+            Self::AnswerRoom => write!(
+                f,
+                "the answer room is too short; lend {} of times and {} of told for each ray",
+                raw::PLACE_TIMES,
+                raw::PLACE_TOLD
             ),
             Self::RayNumbers => {
                 f.write_str("the rays' numbers do not come in sixes; give origin and direction of each")
+            }
+            Self::MaterialList => {
+                f.write_str("the materials are not as many as the triangles; give one for each")
             }
             Self::WeightsDiffer => {
                 f.write_str("weights and rays differ in number; give one weight for each ray")

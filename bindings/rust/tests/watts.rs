@@ -26,9 +26,15 @@ fn weights_go_by_how_a_ray_ends() {
 #[test]
 fn weights_at_their_limit_do_not_wrap() {
     let rays = vec![ray(0); 3];
-    let report = bvh().watts(&rays, &[u32::MAX; 3]).expect("it is served").report;
+    let report = bvh()
+        .watts(&rays, &[u32::MAX; 3])
+        .expect("it is served")
+        .report;
     assert_eq!(report.shaded, 3 * u64::from(u32::MAX));
-    assert_eq!((report.total, report.share()), (report.shaded, Some((1, 1))));
+    assert_eq!(
+        (report.total, report.share()),
+        (report.shaded, Some((1, 1)))
+    );
 }
 
 #[test]
@@ -42,7 +48,10 @@ fn parts_add_up_to_the_whole() {
             .map(|(rays, weights)| bvh().watts(rays, weights).expect("a part is served"))
             .collect();
         let report: Report = parts.iter().map(|part| part.report).sum();
-        assert_eq!((report, report.share()), (whole.report, whole.report.share()));
+        assert_eq!(
+            (report, report.share()),
+            (whole.report, whole.report.share())
+        );
         let places: Vec<_> = parts.into_iter().flat_map(|part| part.places).collect();
         assert_eq!(places, whole.places);
     }
@@ -53,7 +62,10 @@ fn nothing_answered_is_nought_of_one() {
     assert_eq!(Report::default().share(), Some((0, 1)));
     let report = bvh().watts(&[ray(2)], &[9]).expect("it is served").report;
     assert_eq!((report.refused, report.share()), (9, Some((0, 1))));
-    assert_eq!(bvh().watts(&[], &[]).expect("it is served").report, Report::default());
+    assert_eq!(
+        bvh().watts(&[], &[]).expect("it is served").report,
+        Report::default()
+    );
 }
 
 #[test]
@@ -91,11 +103,13 @@ fn a_sum_that_passes_64_bits_is_told() {
 #[test]
 fn refusals_are_told_in_their_order_and_write_nothing() {
     let rays = [0.25, 0.25, 1.0, 0.0, 0.0, -1.0].repeat(2);
-    let run = |mesh: &[f64], rays: &[f64], weights: &[u32], room: usize| {
-        let (mut times, mut told) = (vec![9.0; room], vec![9; 4 * room]);
+    let run = |mesh: &[f64], materials: &[u32], rays: &[f64], weights: &[u32], room: usize| {
+        let mut times = vec![9.0; raw::PLACE_TIMES * room];
+        let mut told = vec![9; raw::PLACE_TOLD * room];
         let (mut report, mut at) = ([9; 6], [9]);
         let number = raw::watts(
             mesh,
+            materials,
             &[0],
             &[0.0; 6],
             &[0, 1, 1],
@@ -112,12 +126,13 @@ fn refusals_are_told_in_their_order_and_write_nothing() {
         }
         number
     };
-    assert_eq!(run(&T[1..], &rays[1..], &[1], 1), 1);
-    assert_eq!(run(&T, &rays[1..], &[1], 0), 14);
-    assert_eq!(run(&T, &rays, &[1], 1), 13);
-    assert_eq!(run(&T, &rays, &[1], 2), 27);
-    assert_eq!(run(&T, &rays, &[1, 2, 3], 2), 27);
-    assert_eq!(run(&T, &rays, &[1, 2], 2), 0);
+    assert_eq!(run(&T[1..], &[], &rays[1..], &[1], 0), 1);
+    assert_eq!(run(&T, &[], &rays[1..], &[1], 0), 18);
+    assert_eq!(run(&T, &[5], &rays[1..], &[1], 0), 14);
+    assert_eq!(run(&T, &[5], &rays, &[1], 1), 13);
+    assert_eq!(run(&T, &[5], &rays, &[1], 2), 27);
+    assert_eq!(run(&T, &[5], &rays, &[1, 2, 3], 2), 27);
+    assert_eq!(run(&T, &[5], &rays, &[1, 2], 2), 0);
     let refusal = bvh().watts(&[ray(0)], &[]).unwrap_err();
     assert_eq!((refusal, refusal.number()), (Refusal::WeightsDiffer, 27));
 }
@@ -127,11 +142,17 @@ fn a_ray_more_than_a_million_and_some_is_too_many() {
     let rays = vec![ray(1); 1_048_577];
     let weights = vec![u32::MAX; 1_048_577];
     let most = 1_048_576;
-    let report = bvh().watts(&rays[..most], &weights[..most]).expect("it is served").report;
+    let report = bvh()
+        .watts(&rays[..most], &weights[..most])
+        .expect("it is served")
+        .report;
     assert_eq!(report.open, 1_048_576 * u64::from(u32::MAX));
     assert_eq!(report.total, report.open);
     let refusal = bvh().watts(&rays, &weights).unwrap_err();
-    assert_eq!((refusal, refusal.number(), refusal.at()), (Refusal::TooManyRays, 28, 0));
+    assert_eq!(
+        (refusal, refusal.number(), refusal.at()),
+        (Refusal::TooManyRays, 28, 0)
+    );
     let refusal = bvh().watts(&rays, &weights[..most]).unwrap_err();
     assert_eq!(refusal.number(), 27);
 }

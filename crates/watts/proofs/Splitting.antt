@@ -16,7 +16,7 @@ use Rattle.aabb.specs.Vector.{vectorAt, rayAt}
 use Rattle.tree.specs.Lent.{Lent}
 use Rattle.sky.specs.declared.Place.{Place}
 use Rattle.walk.specs.Walk.{walk}
-use Rattle.sky.specs.Sky.{rayCount, placeOf, placeFor, toldOf, toldFor, timesFor, filled}
+use Rattle.sky.specs.Sky.{rayCount, placeOf, placeFor, toldOf, toldFor, timesOf, timesFor, filled}
 use Rattle.watts.specs.declared.fraction.Terms.{Terms}
 use Rattle.watts.specs.declared.sums.Figures.{Figures}
 use Rattle.watts.specs.declared.Counted.{Counted}
@@ -105,9 +105,9 @@ module _ (s : Lent) (rays : List Float) (weights : List ℕ) (a : ℕ) (in-range
 -- ---- the calls
 -- what is read in the room that n places fill
 module _ (s : Lent) (rays : List Float) (times : List Float) (told : List ℕ) where
-  times-read : (n m : ℕ) → n ≡ m → take m (filled s rays n times told .times) ≡ records (timesFor s rays) m
+  times-read : (n m : ℕ) → n ≡ m → take (m * 3) (filled s rays n times told .times) ≡ records (timesFor s rays) m
   unfolding filled
-  times-read n m e = take-at (records (timesFor s rays) n) (drop n times) m (omega (arith, records-length (timesFor s rays) 1 (λ k. refl) n)) ∙ ap (records (timesFor s rays)) e
+  times-read n m e = take-at (records (timesFor s rays) n) (drop (n * 3) times) (m * 3) (omega (arith, records-length (timesFor s rays) 3 (λ k. refl) n)) ∙ ap (records (timesFor s rays)) e
 
   told-read : (n m : ℕ) → n ≡ m → take (m * 5) (filled s rays n times told .told) ≡ records (toldFor s rays) m
   unfolding filled
@@ -117,8 +117,8 @@ module _ (s : Lent) (rays : List Float) (times : List Float) (told : List ℕ) w
     pub answer-of : watts s rays weights times told .answer ≡ report (figuresFor s rays weights)
     answer-of = ap (λ (o : Outcome). o .answer) (sym (watts-served s rays weights times told S))
 
-    pub times-of : (m : ℕ) → rayCount rays ≡ m → take m (watts s rays weights times told .times) ≡ records (timesFor s rays) m
-    times-of m e = ap (λ (o : Outcome). take m (o .times)) (sym (watts-served s rays weights times told S)) ∙ times-read (rayCount rays) m e
+    pub times-of : (m : ℕ) → rayCount rays ≡ m → take (m * 3) (watts s rays weights times told .times) ≡ records (timesFor s rays) m
+    times-of m e = ap (λ (o : Outcome). take (m * 3) (o .times)) (sym (watts-served s rays weights times told S)) ∙ times-read (rayCount rays) m e
 
     pub told-of : (m : ℕ) → rayCount rays ≡ m → take (m * 5) (watts s rays weights times told .told) ≡ records (toldFor s rays) m
     told-of m e = ap (λ (o : Outcome). take (m * 5) (o .told)) (sym (watts-served s rays weights times told S)) ∙ told-read (rayCount rays) m e
@@ -129,7 +129,7 @@ reports-joined f g = refl
 
 -- A call that is served, cut at ray a: the parts are served too, in any room that suffices, and their figures and places are the whole's
 module _ (s : Lent) (rays : List Float) (weights : List ℕ) (times : List Float) (told : List ℕ) (S : Served s rays weights times told) (a : ℕ) (in-range : a ≤ rayCount rays) where
-  module _ (times₁ : List Float) (told₁ : List ℕ) (timed : a ≤ length times₁) (roomy : a * 5 ≤ length told₁) where
+  module _ (times₁ : List Float) (told₁ : List ℕ) (timed : a * 3 ≤ length times₁) (roomy : a * 5 ≤ length told₁) where
     pub first-served : Served s (firstRays a rays) (take a weights) times₁ told₁
     first-served =
         let n = first-count s rays weights a in-range in
@@ -140,7 +140,7 @@ module _ (s : Lent) (rays : List Float) (weights : List ℕ) (times : List Float
           within = omega (arith, n, A .within);
         })
 
-  module _ (times₂ : List Float) (told₂ : List ℕ) (timed : rayCount rays - a ≤ length times₂) (roomy : (rayCount rays - a) * 5 ≤ length told₂) where
+  module _ (times₂ : List Float) (told₂ : List ℕ) (timed : (rayCount rays - a) * 3 ≤ length times₂) (roomy : (rayCount rays - a) * 5 ≤ length told₂) where
     pub others-served : Served s (otherRays a rays) (drop a weights) times₂ told₂
     others-served =
         let n = other-count s rays weights a in-range in
@@ -160,7 +160,7 @@ module _ (s : Lent) (rays : List Float) (weights : List ℕ) (times : List Float
         record {
           answer = answer-of s rays times told weights S ∙ ap report (cut-figures s rays weights a in-range) ∙ reports-joined _ _
               ∙ (λ i. joined (sym (answer-of s (firstRays a rays) times₁ told₁ (take a weights) F) i) (sym (answer-of s (otherRays a rays) times₂ told₂ (drop a weights) O) i));
-          times = times-of s rays times told weights S n refl ∙ cut-records s rays weights a in-range (λ p. p .t ∷ [])
+          times = times-of s rays times told weights S n refl ∙ cut-records s rays weights a in-range timesOf
               ∙ (λ i. sym (times-of s (firstRays a rays) times₁ told₁ (take a weights) F a n₁) i ++ sym (times-of s (otherRays a rays) times₂ told₂ (drop a weights) O (n - a) n₂) i);
           told = told-of s rays times told weights S n refl ∙ cut-records s rays weights a in-range toldOf
               ∙ (λ i. sym (told-of s (firstRays a rays) times₁ told₁ (take a weights) F a n₁) i ++ sym (told-of s (otherRays a rays) times₂ told₂ (drop a weights) O (n - a) n₂) i);
@@ -180,7 +180,7 @@ module _ (s : Lent) (rays : List Float) (weights : List ℕ) (a : ℕ) (in-range
 
 -- Parts that are served make a whole that is, in room that suffices and with no more rays than are allowed
 module _ (s : Lent) (rays : List Float) (weights : List ℕ) (a : ℕ) (in-range : a ≤ rayCount rays) (times₁ times₂ : List Float) (told₁ told₂ : List ℕ) where
-  pub whole-served : Served s (firstRays a rays) (take a weights) times₁ told₁ → Served s (otherRays a rays) (drop a weights) times₂ told₂ → (times : List Float) (told : List ℕ) → rayCount rays ≤ length times → rayCount rays * 5 ≤ length told
+  pub whole-served : Served s (firstRays a rays) (take a weights) times₁ told₁ → Served s (otherRays a rays) (drop a weights) times₂ told₂ → (times : List Float) (told : List ℕ) → rayCount rays * 3 ≤ length times → rayCount rays * 5 ≤ length told
       → rayCount rays ≤ most-rays → Served s rays weights times told
   whole-served F O times told timed roomy within =
       let n = first-count s rays weights a in-range in
@@ -213,7 +213,7 @@ unfolding AreAll Roomy partsAnswer partsTimes partsTold records
 parts-together s rays weights times told [] S all room =
     record {
       answer = answer-of s rays times told weights S ∙ ap report (figures-none s rays weights all);
-      times = ap (λ (n : ℕ). take n (watts s rays weights times told .times)) all;
+      times = ap (λ (n : ℕ). take (n * 3) (watts s rays weights times told .times)) all;
       told = ap (λ (n : ℕ). take (n * 5) (watts s rays weights times told .told)) all;
     }
 parts-together s rays weights times told (p ∷ ps) S all room =
@@ -227,6 +227,6 @@ parts-together s rays weights times told (p ∷ ps) S all room =
     let o = watts s (otherRays a rays) (drop a weights) times told in
     record {
       answer = cut .answer ∙ ap (λ (r : Counted). joined (watts s (firstRays a rays) (take a weights) (p .times) (p .told) .answer) r) (rest .answer);
-      times = cut .times ∙ ap (λ (l : List Float). take a (watts s (firstRays a rays) (take a weights) (p .times) (p .told) .times) ++ l) (ap (λ (m : ℕ). take m (o .times)) (sym n) ∙ rest .times);
+      times = cut .times ∙ ap (λ (l : List Float). take (a * 3) (watts s (firstRays a rays) (take a weights) (p .times) (p .told) .times) ++ l) (ap (λ (m : ℕ). take (m * 3) (o .times)) (sym n) ∙ rest .times);
       told = cut .told ∙ ap (λ (l : List ℕ). take (a * 5) (watts s (firstRays a rays) (take a weights) (p .times) (p .told) .told) ++ l) (ap (λ (m : ℕ). take (m * 5) (o .told)) (sym n) ∙ rest .told);
     }

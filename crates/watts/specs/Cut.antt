@@ -37,7 +37,7 @@ joined (Refused number at) other = Refused number at
 -- a call over n rays beside calls over the first a of them and over the others: the reports add up, and the places stand one after the other
 pub record Joined (n a : ℕ) (whole first others : Outcome) : Type 0 where
   pub answer : whole .answer ≡ joined (first .answer) (others .answer)
-  pub times : take n (whole .times) ≡ take a (first .times) ++ take (n - a) (others .times)
+  pub times : take (n * 3) (whole .times) ≡ take (a * 3) (first .times) ++ take ((n - a) * 3) (others .times)
   pub told : take (n * 5) (whole .told) ≡ take (a * 5) (first .told) ++ take ((n - a) * 5) (others .told)
 
 -- ---- any number of parts
@@ -55,7 +55,7 @@ AreAll (p ∷ ps) n = (p .count ≤ n) × AreAll ps (n - p .count)
 -- each in room that suffices
 unfoldable pub Roomy : List Part → Type 0
 Roomy [] = Unit {0}
-Roomy (p ∷ ps) = (p .count ≤ length (p .times)) × (p .count * 5 ≤ length (p .told)) × Roomy ps
+Roomy (p ∷ ps) = (p .count * 3 ≤ length (p .times)) × (p .count * 5 ≤ length (p .told)) × Roomy ps
 
 -- the figures of the parts, added up, of however many rays
 unfoldable pub partsFigures : Lent → List Float → List ℕ → List Part → Figures
@@ -74,7 +74,7 @@ module _ (s : Lent) where
 
   unfoldable pub partsTimes : List Float → List ℕ → List Part → List Float
   partsTimes rays weights [] = []
-  partsTimes rays weights (p ∷ ps) = take (p .count) (call rays weights p .times) ++ partsTimes (otherRays (p .count) rays) (drop (p .count) weights) ps
+  partsTimes rays weights (p ∷ ps) = take (p .count * 3) (call rays weights p .times) ++ partsTimes (otherRays (p .count) rays) (drop (p .count) weights) ps
 
   unfoldable pub partsTold : List Float → List ℕ → List Part → List ℕ
   partsTold rays weights [] = []
@@ -83,5 +83,5 @@ module _ (s : Lent) where
 -- a call beside the calls over any parts of its rays
 pub record Together (s : Lent) (rays : List Float) (weights : List ℕ) (parts : List Part) (whole : Outcome) : Type 0 where
   pub answer : whole .answer ≡ partsAnswer s rays weights parts
-  pub times : take (rayCount rays) (whole .times) ≡ partsTimes s rays weights parts
+  pub times : take (rayCount rays * 3) (whole .times) ≡ partsTimes s rays weights parts
   pub told : take (rayCount rays * 5) (whole .told) ≡ partsTold s rays weights parts

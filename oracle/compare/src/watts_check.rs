@@ -4,6 +4,7 @@
 use crate::calls::{all, same, Calls, READING};
 use crate::random::Random;
 use crate::sky_check::{self, Sky};
+use reading::{PLACE_TIMES, PLACE_TOLD};
 
 /// A sky, and its weights: one a ray mostly, at their limits often.
 #[derive(Clone, Debug)]
@@ -50,8 +51,8 @@ pub fn large(r: &mut Random) -> Vec<Weighed> {
     let mut one = |rays: usize, weights: usize| {
         let mut sky = small.clone();
         sky.rays = small.rays[..6].repeat(rays);
-        sky.times = vec![-7.5; rays];
-        sky.told = vec![9; 5 * rays];
+        sky.times = vec![-7.5; PLACE_TIMES * rays];
+        sky.told = vec![9; PLACE_TOLD * rays];
         Weighed {
             weights: vec![u32::MAX; weights],
             cut: r.below(rays + 1),
@@ -112,7 +113,13 @@ pub fn check(calls: &Calls, case: &Weighed) -> Result<(u32, usize), String> {
         return untouched.map_err(|()| format!("watts answers {number} and writes"));
     }
     let n = case.weights.len();
-    parts(calls, case, &report, &times[..n], &told[..5 * n])?;
+    parts(
+        calls,
+        case,
+        &report,
+        &times[..PLACE_TIMES * n],
+        &told[..PLACE_TOLD * n],
+    )?;
     Ok((0, n))
 }
 
@@ -126,9 +133,16 @@ fn parts(
 ) -> Result<(), String> {
     let (a, n) = (case.cut, case.weights.len());
     let part = |from: usize, to: usize| {
-        let room = (vec![-1.5; to - from], vec![7; 5 * (to - from)]);
+        let n = to - from;
+        let room = (vec![-1.5; PLACE_TIMES * n], vec![7; PLACE_TOLD * n]);
         let rays = &case.sky.rays[6 * from..6 * to];
-        run(calls, &case.sky, rays, &case.weights[from..to], (&room.0, &room.1))
+        run(
+            calls,
+            &case.sky,
+            rays,
+            &case.weights[from..to],
+            (&room.0, &room.1),
+        )
     };
     let (first, others) = (part(0, a), part(a, n));
     let added: Vec<u64> = (0..4).map(|k| first.2[k] + others.2[k]).collect();

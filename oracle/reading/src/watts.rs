@@ -1,7 +1,7 @@
 //! Rules Q of docs/RULES.md: the watts of a sky, and the share.
 
 use crate::sky::sky;
-use crate::{refuse, Refusal};
+use crate::{refuse, Refusal, PLACE_TOLD};
 
 /// Rays that one call weighs at most.
 pub const MOST_RAYS: usize = 1_048_576;
@@ -42,7 +42,7 @@ pub fn watts(
     times.copy_from_slice(&filled_times);
     told.copy_from_slice(&filled_told);
     let watts = |wanted: &dyn Fn(u64) -> bool| -> u64 {
-        let outcomes = told.iter().step_by(5).zip(weights);
+        let outcomes = told.iter().step_by(PLACE_TOLD).zip(weights);
         outcomes
             .filter(|(outcome, _)| wanted(**outcome))
             .map(|(_, weight)| u64::from(*weight))

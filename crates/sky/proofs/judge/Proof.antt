@@ -57,4 +57,4 @@ returns-7 c =
     (goes (agree (l .if3 .left)) (goes (agree (r .if4 .left)) (goes (not-below (c .before .if5 .left)) (goes (not-below (c .if6 .left)) (serves refl)))))))
 
 pub judge-spec : {M : Type 1} → statement M
-judge-spec = tie.close (tie.spec returns returns-2 returns-3 returns-4 returns-5 (λ c. search needs) returns-6 returns-7)
+judge-spec = tie.close (tie.spec returns returns-2 returns-3 returns-4 (λ c. search needs) returns-5 (λ c. search needs) returns-6 returns-7)
