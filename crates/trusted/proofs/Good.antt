@@ -10,12 +10,12 @@ use borrow.Author.Tests.{ltb-false, leb-false}
 use Rattle.float.proofs.Cases.{same?, true-is}
 use Rattle.aabb.specs.Bounds.{bounded, boxAt}
 use Rattle.tree.specs.Lent.{Lent}
 use Rattle.accept.specs.Conditions.{nodes, meshed, breaks-1}
 use Rattle.accept.specs.inner.Room.{firstAt, countAt, kindAt}
 use Rattle.accept.proofs.Faults.{bad-box, hollow, of-leaf, bad-kind, bad-count, of-inner, of-mesh}
 
 pub data Good (s : Lent) (i : ℕ) : Type 0 where
-  leafy : kindAt (s .tree .links) i ≡ 1 → firstAt (s .tree .links) i + countAt (s .tree .links) i ≤ length (s .tree .index) → T (bounded (boxAt (s .tree .boxes) i)) → Good s i
+  leafy : kindAt (s .tree .links) i ≡ 1 → firstAt (s .tree .links) i + countAt (s .tree .links) i ≤ length (s .tree .index) → 0 < countAt (s .tree .links) i → T (bounded (boxAt (s .tree .boxes) i)) → Good s i
   inner : kindAt (s .tree .links) i ≡ 0 → countAt (s .tree .links) i ≡ 0 → firstAt (s .tree .links) i + 1 < nodes s → T (bounded (boxAt (s .tree .boxes) i)) → Good s i
 
 pub good : (s : Lent) (i : ℕ) → (meshed s ≡ 0 → ⊥) → breaks-1 s i ≡ false → Good s i
@@ -27,7 +27,7 @@ good s i n e = by-box (bounded (boxAt (s .tree .boxes) i)) refl
     by-kind : bounded (boxAt (s .tree .boxes) i) ≡ true → (kindAt (s .tree .links) i ≡ 1) ⊎ (kindAt (s .tree .links) i ≡ 1 → ⊥) → (kindAt (s .tree .links) i ≡ 0) ⊎ (kindAt (s .tree .links) i ≡ 0 → ⊥)
         → (countAt (s .tree .links) i ≡ 0) ⊎ (countAt (s .tree .links) i ≡ 0 → ⊥) → Good s i
     by-kind b (inl p) k (inl c) = absurd (no (hollow s i p c ∙ sym (of-mesh s i n)))
-    by-kind b (inl p) k (inr c) = leafy p (ltb-false _ _ (of-leaf s i b p c ∙ sym (of-mesh s i n) ∙ e)) (true-is _ b)
+    by-kind b (inl p) k (inr c) = leafy p (ltb-false _ _ (of-leaf s i b p c ∙ sym (of-mesh s i n) ∙ e)) (omega arith) (true-is _ b)
     by-kind b (inr p) (inl k) (inl c) = inner k c (leb-false _ _ (of-inner s i b k c ∙ sym (of-mesh s i n) ∙ e)) (true-is _ b)
     by-kind b (inr p) (inl k) (inr c) = absurd (no (bad-count s i b p c ∙ sym (of-mesh s i n)))
     by-kind b (inr p) (inr k) c = absurd (no (bad-kind s i b p k ∙ sym (of-mesh s i n)))

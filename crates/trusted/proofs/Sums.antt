@@ -37,6 +37,14 @@ pub sum-ones : (n : ℕ) → sum (λ i. 1) n ≡ n
 unfolding sum
 sum-ones zero = refl
 sum-ones (suc n) = omega (arith, sum-ones n)
+
+-- n numbers of at most 1 that make n together
+pub all-ones : (f : ℕ → ℕ) (n : ℕ) → ((i : ℕ) → i < n → f i ≤ 1) → sum f n ≡ n → (i : ℕ) → i < n → f i ≡ 1
+unfolding sum
+all-ones f zero h e i l = absurd (omega arith)
+all-ones f (suc n) h e i l =
+    let m = sum-most f (λ i. 1) n (λ i k. h i (omega arith)) in
+    ⊎-elim (λ w. ap f w ∙ omega (arith, m, sum-ones n, h n (omega arith))) (λ w. all-ones f n (λ i k. h i (omega arith)) (omega (arith, m, sum-ones n, h n (omega arith))) i (omega arith)) (same? i n)
 
 pub sum-turned : (g : ℕ → ℕ → ℕ) (n m : ℕ) → sum (λ i. sum (g i) m) n ≡ sum (λ j. sum (λ i. g i j) n) m
 unfolding sum
