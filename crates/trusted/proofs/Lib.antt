@@ -5,4 +5,7 @@ pub mod Family
 pub mod Growing
 pub mod Entries
 pub mod Accepting
+pub mod Nodes
+pub mod Reaching
+pub mod Unbroken
 pub mod Judged
