@@ -77,7 +77,7 @@ meets-judged s K =
     (none-of (breaks-1 s) (nodes s) (K .one), none-of (breaks-2 s) (nodes s) (K .two), none-of (breaks-3 s) (nodes s) (K .three), none-of (breaks-4 s) (length (s .tree .index)) (K .four), none-of (breaks-5 s) (length (s .tree .index)) (K .five), le-ltb (length (s .tree .index)) (meshed s) (K .long), none-of (breaks-6 s) (nodes s) (K .six))
 
 -- ---- the call
-fine-is : (v : Verdict) → ruling v ≡ ruling fine → v ≡ fine
+pub fine-is : (v : Verdict) → ruling v ≡ ruling fine → v ≡ fine
 unfolding ruling
 fine-is fine e = refl
 fine-is (Refused n k i) e = let f = ap (λ (r : Ruling). r .refusal) e in let z : _≡_ {A = ℕ} 0 1 = cc in absurd (omega arith)

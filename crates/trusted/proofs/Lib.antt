@@ -9,3 +9,4 @@ pub mod Nodes
 pub mod Reaching
 pub mod Unbroken
 pub mod Judged
+pub mod Exactly
