@@ -1,5 +1,5 @@
--- Demand 3 holds of every tree that a walk can take, and so of every tree that is built. Assumes nothing.
-use mathlib.Core.Path.{_≡_, refl, sym, ap}
+-- Demand 3 holds of every tree that a walk can take, and so of every tree that is accepted and of every tree that is built. Assumes nothing.
+use mathlib.Core.Path.{_≡_, refl, sym, ap, subst}
 use Prim.Native.Nat.{ℕ, _*_}
 use native.Mathlib.Omega.{arith}
 use lib.Dec.{T}
@@ -15,9 +15,9 @@ use Rattle.tree.specs.Lent.{Lent, lent}
 use Rattle.lent.specs.Ladder.{triangleCount}
 use Rattle.walk.specs.Answer.{Told}
 use Rattle.walk.specs.Walk.{over}
-use Rattle.tree.specs.Tree.{Tree}
+use Rattle.tree.specs.Tree.{Tree, size, leaves}
 use Rattle.tree.proofs.Counts.{odd-size}
-use Rattle.tree.specs.Accepted.{Walkable}
+use Rattle.tree.specs.Accepted.{Walkable, Accepted}
 use Rattle.demands.proofs.Walking.{short, walked, few-tests}
 use Rattle.demands.proofs.NearestHit.{walk-nearest, walk-clear}
 use Rattle.demands.proofs.SameHit.{same-leaves-hit, reordered-hit}
@@ -42,6 +42,23 @@ module _ (s : Lent) (t : Tree) (r : Ray) (A : Walkable s t) (R : T (admittedRay 
         no-hit = walk-clear s t r A R;
       }
 
+-- ---- a tree that is accepted, wherever it was built
+module _ (s : Lent) (t : Tree) (A : Accepted s t) where
+  pub signed-tree : Signed s (size t) (leaves t)
+  signed-tree =
+      let W = A .walkable in
+      record {
+        tree = t;
+        accepted = A;
+        nodes-are = A .all-nodes;
+        size-is = refl;
+        leaves-are = refl;
+        odd = odd-size t;
+        answer = λ r R. demand-3 s t r W R;
+        settled = λ r R s′ t′ m C L. same-leaves-hit s s′ t t′ r m W C R L;
+        any-order = λ r R order O. reordered-hit s order t r W O R;
+      }
+
 -- ---- a built tree
 module _ (mesh : List Float) (index : List ℕ) (boxes : List Float) (links : List ℕ) (nodes leaf-count : ℕ) where
   abbrev left : Outcome
@@ -58,19 +75,8 @@ module _ (mesh : List Float) (index : List ℕ) (boxes : List Float) (links : Li
   signed e =
       let w = success mesh index boxes links nodes leaf-count left e refl in
       let t = w .grown .tree in
-      let A = accepted-lists mesh index boxes links nodes leaf-count left w in
-      let W = A .walkable in
-      record {
-        tree = t;
-        accepted = A;
-        nodes-are = omega (arith, A .all-nodes, w .nodes-are);
-        size-is = sym (w .nodes-are);
-        leaves-are = sym (w .leaves-are);
-        odd = omega (arith, odd-size t, w .nodes-are, w .leaves-are);
-        answer = λ r R. demand-3 given t r W R;
-        settled = λ r R s′ t′ m C L. same-leaves-hit given s′ t t′ r m W C R L;
-        any-order = λ r R order O. reordered-hit given order t r W O R;
-      }
+      subst (λ (n : ℕ). Signed given n leaf-count) (sym (w .nodes-are))
+      (subst (λ (l : ℕ). Signed given (size t) l) (sym (w .leaves-are)) (signed-tree given t (accepted-lists mesh index boxes links nodes leaf-count left w)))
 
   -- Demand 3: of every built tree, unchanged, over its own triangles
   pub built-walk : left .answer ≡ servedReply nodes leaf-count → Signed (handed mesh left) nodes leaf-count
