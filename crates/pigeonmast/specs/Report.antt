@@ -1,7 +1,8 @@
--- What each exported call answers and leaves in the lent arrays (rules X1 to X6), as the comment at the call says (src/lib.rt). Definitions only.
+-- What each exported call answers and leaves in the lent arrays (rules X1 to X7), as the comment at the call says (src/lib.rt). Definitions only.
 use Prim.Native.Nat.{ℕ}
 use mathlib.Core.Bool.{cond}
 use mathlib.Core.List.{List, [], _∷_}
+use lib.Dec.{eqb}
 use lib.Ieee.{Float}
 use Rattle.aabb.specs.declared.slab.Span.{Span}
 use Rattle.aabb.specs.declared.slab.Span.the-variants.{Passed, Missed}
@@ -15,6 +16,7 @@ use Rattle.builder.specs.Build.{Outcome}
 use Rattle.lent.specs.Ladder.{Refusal, none, numbered}
 use Rattle.walk.specs.Answer.{Told}
 use Rattle.sky.specs.Sky.{Filling}
+use Rattle.accept.specs.Accept.{Ruling, Outcome as Judging}
 
 -- ---- pigeonmast_abi (rule X5)
 -- the number of the calls' form, PIGEONMAST_ABI of the C header
@@ -140,3 +142,25 @@ normals answer told triangles = record { answer = answer; told = told; triangles
 -- 0, or the refusal number with its at
 unfoldable pub normalsReport : Refilling → Normals
 normalsReport o = normals (refusalNumber (o .refusal)) (refusalAt (o .refusal) ∷ []) (o .mesh)
+
+-- ---- pigeonmast_accept (rule X7)
+-- the number, and what told and the work room hold at the end
+pub record Accept : Type 0 where
+  pub answer : ℕ
+  pub told : List ℕ
+  pub work : List ℕ
+
+abbrev pub accept : ℕ → List ℕ → List ℕ → Accept
+accept answer told work = record { answer = answer; told = told; work = work }
+
+-- told = 0, 0; with 19 told = condition, place; with any other refusal told = at, 0
+unfoldable pub conditionTold : Refusal → ℕ → List ℕ
+conditionTold none condition = 0 ∷ 0 ∷ []
+conditionTold (numbered number at) condition = cond (eqb number 19) (condition ∷ at ∷ []) (at ∷ 0 ∷ [])
+
+unfoldable pub acceptTold : Ruling → List ℕ
+acceptTold r = conditionTold (r .refusal) (r .condition)
+
+-- 0, or the refusal number
+unfoldable pub acceptReport : Judging → Accept
+acceptReport o = accept (refusalNumber (o .answer .refusal)) (acceptTold (o .answer)) (o .work)
