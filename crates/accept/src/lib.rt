@@ -60,7 +60,7 @@ fn judge_list(
     ensures { λ _. ⌜ length (now (work .exit)) ≡ length (now (work .entry)) ⌝ }
     ensures { λ r. ⌜ r ≡ from-5 (lent (now (triangles .entry)) (now (index .entry)) (now (boxes .entry)) (now (links .entry))) ⌝ }
 {
-    breach::fill(work, 0);
+    breach::fill(work, list::UNSEEN);
     match list::first_misplaced(index, triangles.len() / 12, work) {
         Breach::At(p) => broken(5, p),
         Breach::Nowhere => judge_boxes(triangles, index, boxes, links),
@@ -114,7 +114,7 @@ fn judge_parents(
     ensures { λ _. ⌜ length (now (work .exit)) ≡ length (now (work .entry)) ⌝ }
     ensures { λ r. ⌜ r ≡ from-2 (lent (now (triangles .entry)) (now (index .entry)) (now (boxes .entry)) (now (links .entry))) ⌝ }
 {
-    breach::fill(work, 0);
+    breach::fill(work, parents::NONE);
     parents::name_parents(links, work);
     match parents::first_orphan(work, links.len() / 3) {
         Breach::At(i) => broken(2, i),

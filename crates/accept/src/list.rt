@@ -7,6 +7,9 @@ ghost use Rattle.accept.specs.Lowest.{lowest};
 ghost use Rattle.accept.specs.Conditions.{misplaced};
 ghost use Rattle.accept.specs.Accept.{lacking};
 
+// A triangle that no entry has named yet.
+pub const UNSEEN: u32 = 0;
+
 // The lowest entry that is out of range or was seen before; the list's length if only entries are lacking.
 pub fn first_misplaced(index: &[u32], n: usize, work: &mut [u32]) -> Breach
     requires { ⌜ (n ≤ length (now work)) × ((k : ℕ) → k < n → getD (now work) k 0 ≡ 0) ⌝ }
@@ -19,7 +22,7 @@ pub fn first_misplaced(index: &[u32], n: usize, work: &mut [u32]) -> Breach
         if n <= k {
             return Breach::At(p);
         }
-        if work[k] != 0 {
+        if work[k] != UNSEEN {
             return Breach::At(p);
         }
         work[k] = 1;

@@ -1,4 +1,4 @@
-// Conditions (ii) and (iii). The work room has for each node 0, or its parent's number and one, or SEVERAL where it has more than one parent.
+// Conditions (ii) and (iii). The work room has for each node NONE, or its parent's number and one, or SEVERAL where it has more than one parent.
 // From each node at most 63 steps up must lead to node 0: so no list of links, however tangled, makes more than 63 steps a node.
 use crate::breach;
 use crate::breach::Breach;
@@ -11,6 +11,9 @@ ghost use Rattle.tree.specs.Lent.{nodeCount};
 ghost use Rattle.accept.specs.Lowest.{lowest};
 ghost use Rattle.accept.specs.inner.Room.{parentAt, adopted, named, orphan, climbs, adrift};
 
+// No parent was found yet, or more than one.
+pub const NONE: u32 = 0;
+
 const SEVERAL: u32 = 0xffff_ffff;
 
 // Writes down node i as the parent of a node.
@@ -19,7 +22,7 @@ fn adopt(work: &mut [u32], child: usize, i: usize)
     ensures { λ _. ⌜ now (work .exit) ≡ set (now (work .entry)) child (adopted (getD (now (work .entry)) child 0) i) ⌝ }
 {
     if child < work.len() {
-        if work[child] == 0 {
+        if work[child] == NONE {
             work[child] = i as u32 + 1;
         } else {
             work[child] = SEVERAL;
@@ -61,9 +64,9 @@ fn orphan(work: &[u32], j: usize) -> bool
 {
     let told = breach::read(work, j);
     if j == 0 {
-        return told != 0;
+        return told != NONE;
     }
-    if told == 0 {
+    if told == NONE {
         return true;
     }
     told == SEVERAL
@@ -94,7 +97,7 @@ fn climbs(work: &[u32], j: usize) -> bool
             return true;
         }
         let told = breach::read(work, at);
-        if told == 0 {
+        if told == NONE {
             return false;
         }
         at = told as usize - 1;

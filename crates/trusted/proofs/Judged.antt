@@ -91,15 +91,16 @@ module _ (s : Lent) (work : List ℕ) where
   unfolding accepted
   accepted-meets e =
       let p = all-passed _ _ _ (accepted s work) refl (λ n i f. not-refused n i (ap (λ (o : Outcome). o .answer) f ∙ e)) in
-      let q = p .0 in
-      (record {
-        whole = eqb-true (length (s .mesh .triangles) % 12) 0 (not-false (eqb (length (s .mesh .triangles) % 12) 0) (q .0));
-        few = ltb-false most-triangles (meshed s) (q .1 .0);
-        fitted = q .1 .1 .0;
-        admitted = λ k l. none-refused (s .mesh .triangles) (meshed s) 0 k (none-unadmitted (firstRefused (s .mesh .triangles) 0 (meshed s)) (q .1 .1 .1 .1 .0)) (omega arith) (omega arith);
-      },
-      ltb-false (length work) (nodes s + meshed s) (q .1 .1 .1 .0),
-      judged-meets s (fine-is (judged s) (ap (λ (o : Outcome). o .answer) (p .1) ∙ e)))
+      let q = p .0 in (
+        record {
+          whole = eqb-true (length (s .mesh .triangles) % 12) 0 (not-false (eqb (length (s .mesh .triangles) % 12) 0) (q .0));
+          few = ltb-false most-triangles (meshed s) (q .1 .0);
+          fitted = q .1 .1 .0;
+          admitted = λ k l. none-refused (s .mesh .triangles) (meshed s) 0 k (none-unadmitted (firstRefused (s .mesh .triangles) 0 (meshed s)) (q .1 .1 .1 .1 .0)) (omega arith) (omega arith);
+        },
+        ltb-false (length work) (nodes s + meshed s) (q .1 .1 .1 .0),
+        judged-meets s (fine-is (judged s) (ap (λ (o : Outcome). o .answer) (p .1) ∙ e)),
+      )
 
   pub meets-accepted : Sound s → Roomy s work → Meets s → accepted s work ≡ outcome (ruling fine) (replicate (length work) 0)
   unfolding accepted
