@@ -31,6 +31,8 @@
 //!
 //! [`Triangle::new`] works a normal out, [`refill_normals`] those of a whole mesh.
 //!
+//! [`Bvh::from_lists`] takes a tree that was built elsewhere, if it is accepted.
+//!
 //! [`raw`] has the calls of the library as they stand, over lent slices, and says
 //! what is asked of the floating-point state. A Rust program starts in it.
 //!
@@ -41,6 +43,7 @@
 
 mod aabb;
 mod bvh;
+mod condition;
 mod ffi;
 pub mod raw;
 mod refusal;
@@ -49,6 +52,7 @@ mod vector;
 
 pub use aabb::{ray_aabb_slab_test, Aabb};
 pub use bvh::{build_bvh, Bvh, BvhNode, Place, PlaceHit, Walk};
+pub use condition::Condition;
 pub use refusal::Refusal;
 pub use triangle::{refill_normals, HitRecord, Triangle};
 pub use vector::{Ray, Vec3};

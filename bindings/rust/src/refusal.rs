@@ -1,6 +1,8 @@
 use std::error::Error;
 use std::fmt;
 
+use crate::Condition;
+
 /// Why a call was refused, or one of its rays: the table of refusals in
 /// docs/RULES.md, by name. More names may come with later calls.
 #[derive(Clone, Copy, Debug, PartialEq, Eq, Hash)]
@@ -59,6 +61,16 @@ pub enum Refusal {
     AnswerRoom,
     /// 14: the rays' numbers do not come in sixes.
     RayNumbers,
+    /// 16: lent room is too short.
+    RoomTooShort,
+    /// 19: a tree that was built elsewhere is not accepted.
+    ConditionBroken {
+        /// The first condition that is broken.
+        condition: Condition,
+        /// The lowest place where it breaks: an entry of the index list for
+        /// [`Condition::Cover`] and [`Condition::Permutation`], else a node.
+        place: u64,
+    },
     /// A number that this crate does not know: the library is newer.
     Unknown {
         /// The number.
@@ -85,7 +97,19 @@ impl Refusal {
             12 => Self::TooManyBoxTests { node: at },
             13 => Self::AnswerRoom,
             14 => Self::RayNumbers,
+            16 => Self::RoomTooShort,
             _ => Self::Unknown { number, at },
+        }
+    }
+
+    /// Of a call that accepts: with 19 it tells the condition and the place.
+    pub(crate) fn of_accept(number: u32, told: [u64; 2]) -> Self {
+        match (number, Condition::new(told[0])) {
+            (19, Some(condition)) => Self::ConditionBroken {
+                condition,
+                place: told[1],
+            },
+            _ => Self::new(number, told[0]),
         }
     }
 
@@ -107,6 +131,8 @@ impl Refusal {
             Self::TooManyBoxTests { .. } => 12,
             Self::AnswerRoom => 13,
             Self::RayNumbers => 14,
+            Self::RoomTooShort => 16,
+            Self::ConditionBroken { .. } => 19,
             Self::Unknown { number, .. } => *number,
         }
     }
@@ -123,6 +149,7 @@ impl Refusal {
             | Self::BadEntry { place: at }
             | Self::TooManyPending { node: at }
             | Self::TooManyBoxTests { node: at }
+            | Self::ConditionBroken { place: at, .. }
             | Self::Unknown { at, .. } => *at,
             _ => 0,
         }
@@ -181,6 +208,10 @@ impl fmt::Display for Refusal {
             Self::RayNumbers => {
                 f.write_str("the rays' numbers do not come in sixes; give origin and direction of each")
             }
+            Self::RoomTooShort => {
+                f.write_str("the lent room is too short; lend one number for each node and each triangle")
+            }
+            Self::ConditionBroken { condition, place } => condition.broken_at(*place, f),
             Self::Unknown { at, .. } => {
                 write!(f, "at {at}, by a number that this crate does not know; use the crate that came with the library")
             }

@@ -1,7 +1,7 @@
 -- The six conditions that a tree built elsewhere must meet (rules Q2 to Q7), each as a test of one place at which it breaks. Definitions only.
 use Prim.Native.Nat.{ℕ, zero, suc, _+_}
 use mathlib.Core.Bool.{Bool, true, not, _&&_, _||_, cond}
-use mathlib.Core.List.{List}
+use mathlib.Core.List.{List, []}
 use lib.Dec.{leb, ltb, eqb}
 use lib.ListN.{length, getD}
 use lib.Ieee.{Float}
@@ -12,9 +12,13 @@ use Rattle.aabb.specs.Bounds.{bounded, isEmpty, contains, holds, boxAt}
 use Rattle.triangle.specs.declared.Triangle.{Triangle}
 use Rattle.triangle.specs.Mesh.{triangleAt}
 use Rattle.tree.specs.declared.Node.{Node}
-use Rattle.tree.specs.Lent.{Lent, nodeCount}
+use Rattle.tree.specs.Lent.{Lent, lent, nodeCount}
 use Rattle.tree.specs.Node.{leftOrFirst, nodeOf, sound, leftOf, rightOf}
 use Rattle.accept.specs.Lowest.{any, count}
+
+-- the lists that are judged: no condition speaks of materials
+abbrev pub foreign : List Float → List ℕ → List Float → List ℕ → Lent
+foreign triangles index boxes links = lent triangles [] index boxes links
 
 abbrev pub nodes : Lent → ℕ
 nodes s = nodeCount (s .tree .links)

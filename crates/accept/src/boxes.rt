@@ -1,15 +1,14 @@
 // Condition (vi): each inner box numerically contains its children's boxes and each leaf box its vertices.
-use crate::breach;
 use crate::breach::Breach;
 use aabb::Aabb;
 use triangle::Corners;
 ghost use mathlib.Core.Path.{_≡_};
 ghost use Prim.Native.Nat.{_+_, _<_, _≤_};
 ghost use Rattle.triangle.specs.Mesh.{triangleAt};
-ghost use Rattle.tree.specs.Lent.{lent, nodeCount};
+ghost use Rattle.tree.specs.Lent.{nodeCount};
 ghost use Rattle.tree.specs.Node.{nodeAt};
 ghost use Rattle.accept.specs.Lowest.{lowest};
-ghost use Rattle.accept.specs.Conditions.{holdsAll, holdsEach, encloses, breaks-6};
+ghost use Rattle.accept.specs.Conditions.{foreign, holdsAll, holdsEach, encloses, breaks-6};
 
 // Whether a box holds the vertices of triangle k.
 fn holds_all(triangles: &[f64], b: Aabb, k: usize) -> bool
@@ -33,7 +32,7 @@ fn holds_each(triangles: &[f64], index: &[u32], b: Aabb, first: usize, count: us
     let mut p = first;
     let mut left = count;
     while 0 < left {
-        if !holds_all(triangles, b, breach::read(index, p) as usize) {
+        if !holds_all(triangles, b, tree::word(index, p) as usize) {
             return false;
         }
         p += 1;
@@ -44,7 +43,7 @@ fn holds_each(triangles: &[f64], index: &[u32], b: Aabb, first: usize, count: us
 
 fn encloses(triangles: &[f64], index: &[u32], boxes: &[f64], links: &[u32], i: usize) -> bool
     requires { ⌜ i < nodeCount (now links) ⌝ }
-    ensures { λ r. ⌜ r ≡ encloses (lent (now (triangles .entry)) (now (index .entry)) (now (boxes .entry)) (now (links .entry))) i (nodeAt (now (boxes .entry)) (now (links .entry)) i) ⌝ }
+    ensures { λ r. ⌜ r ≡ encloses (foreign (now (triangles .entry)) (now (index .entry)) (now (boxes .entry)) (now (links .entry))) i (nodeAt (now (boxes .entry)) (now (links .entry)) i) ⌝ }
 {
     let b = Aabb::read(boxes, i);
     let first = links[i * 3] as usize;
@@ -60,7 +59,7 @@ fn encloses(triangles: &[f64], index: &[u32], boxes: &[f64], links: &[u32], i: u
 
 // The lowest node that breaks (vi).
 pub fn first_loose(triangles: &[f64], index: &[u32], boxes: &[f64], links: &[u32]) -> Breach
-    ensures { λ r. ⌜ r ≡ lowest (breaks-6 (lent (now (triangles .entry)) (now (index .entry)) (now (boxes .entry)) (now (links .entry)))) 0 (nodeCount (now (links .entry))) ⌝ }
+    ensures { λ r. ⌜ r ≡ lowest (breaks-6 (foreign (now (triangles .entry)) (now (index .entry)) (now (boxes .entry)) (now (links .entry)))) 0 (nodeCount (now (links .entry))) ⌝ }
 {
     let nodes = links.len() / 3;
     let mut i: usize = 0;

@@ -1,20 +1,10 @@
-// Where something breaks first: a node, or an entry of the index list. And what stands at a place of a lent list.
+// Where a condition breaks first: a node, or an entry of the index list. And a lent list filled.
 ghost use mathlib.Core.Path.{_≡_};
-ghost use lib.ListN.{getD, length, replicate};
+ghost use lib.ListN.{length, replicate};
 
 pub enum Breach {
     At(usize),
     Nowhere,
-}
-
-// The number at a place of a list; 0 beyond its end.
-pub fn read(list: &[u32], at: usize) -> u32
-    ensures { λ r. ⌜ r ≡ getD (now (list .entry)) at 0 ⌝ }
-{
-    if at < list.len() {
-        return list[at];
-    }
-    0
 }
 
 // The same number throughout.

@@ -14,8 +14,8 @@ ghost use mathlib.Core.Bool.{false};
 ghost use lib.ListN.{length, getD};
 ghost use Rattle.lent.specs.Limits.{most-nodes};
 ghost use Rattle.lent.specs.Ladder.{triangleCount};
-ghost use Rattle.tree.specs.Lent.{lent, nodeCount};
-ghost use Rattle.accept.specs.Conditions.{breaks-2};
+ghost use Rattle.tree.specs.Lent.{nodeCount};
+ghost use Rattle.accept.specs.Conditions.{foreign, breaks-2};
 ghost use Rattle.accept.specs.inner.Room.{named};
 ghost use Rattle.accept.specs.Accept.{broken, from-2, from-3, from-4, from-5, from-6, judged, ruling, outcome, accepted};
 
@@ -41,7 +41,7 @@ fn broken(condition: u32, at: usize) -> Verdict
 
 // The conditions from each on. What is written stays in the work room.
 fn judge_boxes(triangles: &[f64], index: &[u32], boxes: &[f64], links: &[u32]) -> Verdict
-    ensures { λ r. ⌜ r ≡ from-6 (lent (now (triangles .entry)) (now (index .entry)) (now (boxes .entry)) (now (links .entry))) ⌝ }
+    ensures { λ r. ⌜ r ≡ from-6 (foreign (now (triangles .entry)) (now (index .entry)) (now (boxes .entry)) (now (links .entry))) ⌝ }
 {
     match boxes::first_loose(triangles, index, boxes, links) {
         Breach::At(i) => broken(6, i),
@@ -58,7 +58,7 @@ fn judge_list(
 ) -> Verdict
     requires { ⌜ (0 < nodeCount (now links)) × (nodeCount (now links) ≤ most-nodes) × (nodeCount (now links) + triangleCount (now triangles) ≤ length (now work)) ⌝ }
     ensures { λ _. ⌜ length (now (work .exit)) ≡ length (now (work .entry)) ⌝ }
-    ensures { λ r. ⌜ r ≡ from-5 (lent (now (triangles .entry)) (now (index .entry)) (now (boxes .entry)) (now (links .entry))) ⌝ }
+    ensures { λ r. ⌜ r ≡ from-5 (foreign (now (triangles .entry)) (now (index .entry)) (now (boxes .entry)) (now (links .entry))) ⌝ }
 {
     breach::fill(work, list::UNSEEN);
     match list::first_misplaced(index, triangles.len() / 12, work) {
@@ -76,7 +76,7 @@ fn judge_cover(
 ) -> Verdict
     requires { ⌜ (0 < nodeCount (now links)) × (nodeCount (now links) ≤ most-nodes) × (nodeCount (now links) + triangleCount (now triangles) ≤ length (now work)) ⌝ }
     ensures { λ _. ⌜ length (now (work .exit)) ≡ length (now (work .entry)) ⌝ }
-    ensures { λ r. ⌜ r ≡ from-4 (lent (now (triangles .entry)) (now (index .entry)) (now (boxes .entry)) (now (links .entry))) ⌝ }
+    ensures { λ r. ⌜ r ≡ from-4 (foreign (now (triangles .entry)) (now (index .entry)) (now (boxes .entry)) (now (links .entry))) ⌝ }
 {
     match cover::first_uncovered(index.len(), links, work) {
         Breach::At(p) => broken(4, p),
@@ -93,9 +93,9 @@ fn judge_reach(
 ) -> Verdict
     requires { ⌜ (0 < nodeCount (now links)) × (nodeCount (now links) ≤ most-nodes) × (nodeCount (now links) + triangleCount (now triangles) ≤ length (now work)) ⌝ }
     requires { ⌜ ((j : ℕ) → j < nodeCount (now links) → getD (now work) j 0 ≡ named (now links) j (nodeCount (now links))) ⌝ }
-    requires { ⌜ ((j : ℕ) → j < nodeCount (now links) → breaks-2 (lent (now triangles) (now index) (now boxes) (now links)) j ≡ false) ⌝ }
+    requires { ⌜ ((j : ℕ) → j < nodeCount (now links) → breaks-2 (foreign (now triangles) (now index) (now boxes) (now links)) j ≡ false) ⌝ }
     ensures { λ _. ⌜ length (now (work .exit)) ≡ length (now (work .entry)) ⌝ }
-    ensures { λ r. ⌜ r ≡ from-3 (lent (now (triangles .entry)) (now (index .entry)) (now (boxes .entry)) (now (links .entry))) ⌝ }
+    ensures { λ r. ⌜ r ≡ from-3 (foreign (now (triangles .entry)) (now (index .entry)) (now (boxes .entry)) (now (links .entry))) ⌝ }
 {
     match parents::first_unreached(work, links.len() / 3) {
         Breach::At(i) => broken(3, i),
@@ -112,7 +112,7 @@ fn judge_parents(
 ) -> Verdict
     requires { ⌜ (0 < nodeCount (now links)) × (nodeCount (now links) ≤ most-nodes) × (nodeCount (now links) + triangleCount (now triangles) ≤ length (now work)) ⌝ }
     ensures { λ _. ⌜ length (now (work .exit)) ≡ length (now (work .entry)) ⌝ }
-    ensures { λ r. ⌜ r ≡ from-2 (lent (now (triangles .entry)) (now (index .entry)) (now (boxes .entry)) (now (links .entry))) ⌝ }
+    ensures { λ r. ⌜ r ≡ from-2 (foreign (now (triangles .entry)) (now (index .entry)) (now (boxes .entry)) (now (links .entry))) ⌝ }
 {
     breach::fill(work, parents::NONE);
     parents::name_parents(links, work);
@@ -131,7 +131,7 @@ fn judge(
 ) -> Verdict
     requires { ⌜ (0 < nodeCount (now links)) × (nodeCount (now links) ≤ most-nodes) × (nodeCount (now links) + triangleCount (now triangles) ≤ length (now work)) ⌝ }
     ensures { λ _. ⌜ length (now (work .exit)) ≡ length (now (work .entry)) ⌝ }
-    ensures { λ r. ⌜ r ≡ judged (lent (now (triangles .entry)) (now (index .entry)) (now (boxes .entry)) (now (links .entry))) ⌝ }
+    ensures { λ r. ⌜ r ≡ judged (foreign (now (triangles .entry)) (now (index .entry)) (now (boxes .entry)) (now (links .entry))) ⌝ }
 {
     match nodes::first_faulty(triangles, index, boxes, links) {
         Breach::At(i) => broken(1, i),
@@ -151,7 +151,7 @@ pub fn accept(
     links: &[u32],
     work: &mut [u32],
 ) -> Verdict
-    ensures { λ r. ⌜ outcome (ruling r) (now (work .exit)) ≡ accepted (lent (now (triangles .entry)) (now (index .entry)) (now (boxes .entry)) (now (links .entry))) (now (work .entry)) ⌝ }
+    ensures { λ r. ⌜ outcome (ruling r) (now (work .exit)) ≡ accepted (foreign (now (triangles .entry)) (now (index .entry)) (now (boxes .entry)) (now (links .entry))) (now (work .entry)) ⌝ }
 {
     let numbers = triangles.len();
     if numbers % 12 != 0 {

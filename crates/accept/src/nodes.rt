@@ -5,15 +5,15 @@ ghost use mathlib.Core.Path.{_≡_};
 ghost use mathlib.Core.List.{List};
 ghost use lib.Ieee.{Float};
 ghost use Prim.Native.Nat.{_<_};
-ghost use Rattle.tree.specs.Lent.{lent, nodeCount};
+ghost use Rattle.tree.specs.Lent.{nodeCount};
 ghost use Rattle.tree.specs.Node.{nodeAt};
 ghost use Rattle.accept.specs.Lowest.{lowest};
-ghost use Rattle.accept.specs.Conditions.{faulty, single, breaks-1};
+ghost use Rattle.accept.specs.Conditions.{foreign, faulty, single, breaks-1};
 
 // Whether node i of a tree over triangles has a fault.
 fn faulty(index: &[u32], boxes: &[f64], links: &[u32], i: usize) -> bool
     requires { ⌜ i < nodeCount (now links) ⌝ }
-    ensures { λ r. ⌜ ((mesh : List Float) → r ≡ faulty (lent mesh (now (index .entry)) (now (boxes .entry)) (now (links .entry))) i (nodeAt (now (boxes .entry)) (now (links .entry)) i)) ⌝ }
+    ensures { λ r. ⌜ ((mesh : List Float) → r ≡ faulty (foreign mesh (now (index .entry)) (now (boxes .entry)) (now (links .entry))) i (nodeAt (now (boxes .entry)) (now (links .entry)) i)) ⌝ }
 {
     let first = links[i * 3] as usize;
     let count = links[i * 3 + 1] as usize;
@@ -39,7 +39,7 @@ fn faulty(index: &[u32], boxes: &[f64], links: &[u32], i: usize) -> bool
 // Whether the lists are those of an empty mesh: one leaf with first 0, count 0 and the empty box, and an empty list.
 fn single(index: &[u32], boxes: &[f64], links: &[u32]) -> bool
     requires { ⌜ 0 < nodeCount (now links) ⌝ }
-    ensures { λ r. ⌜ ((mesh : List Float) → r ≡ single (lent mesh (now (index .entry)) (now (boxes .entry)) (now (links .entry))) (nodeAt (now (boxes .entry)) (now (links .entry)) 0)) ⌝ }
+    ensures { λ r. ⌜ ((mesh : List Float) → r ≡ single (foreign mesh (now (index .entry)) (now (boxes .entry)) (now (links .entry))) (nodeAt (now (boxes .entry)) (now (links .entry)) 0)) ⌝ }
 {
     if links.len() / 3 != 1 {
         return false;
@@ -62,7 +62,7 @@ fn single(index: &[u32], boxes: &[f64], links: &[u32]) -> bool
 // The lowest node that breaks (i).
 pub fn first_faulty(triangles: &[f64], index: &[u32], boxes: &[f64], links: &[u32]) -> Breach
     requires { ⌜ 0 < nodeCount (now links) ⌝ }
-    ensures { λ r. ⌜ r ≡ lowest (breaks-1 (lent (now (triangles .entry)) (now (index .entry)) (now (boxes .entry)) (now (links .entry)))) 0 (nodeCount (now (links .entry))) ⌝ }
+    ensures { λ r. ⌜ r ≡ lowest (breaks-1 (foreign (now (triangles .entry)) (now (index .entry)) (now (boxes .entry)) (now (links .entry)))) 0 (nodeCount (now (links .entry))) ⌝ }
 {
     if triangles.len() / 12 == 0 {
         if single(index, boxes, links) {

@@ -1,6 +1,5 @@
 // Conditions (ii) and (iii). The work room has for each node NONE, or its parent's number and one, or SEVERAL where it has more than one parent.
 // From each node at most 63 steps up must lead to node 0: so no list of links, however tangled, makes more than 63 steps a node.
-use crate::breach;
 use crate::breach::Breach;
 ghost use mathlib.Core.Path.{_≡_};
 ghost use mathlib.Core.Bool.{cond};
@@ -62,7 +61,7 @@ pub fn name_parents(links: &[u32], work: &mut [u32])
 fn orphan(work: &[u32], j: usize) -> bool
     ensures { λ r. ⌜ r ≡ orphan (now (work .entry)) j ⌝ }
 {
-    let told = breach::read(work, j);
+    let told = tree::word(work, j);
     if j == 0 {
         return told != NONE;
     }
@@ -96,7 +95,7 @@ fn climbs(work: &[u32], j: usize) -> bool
         if at == 0 {
             return true;
         }
-        let told = breach::read(work, at);
+        let told = tree::word(work, at);
         if told == NONE {
             return false;
         }

@@ -4,9 +4,10 @@ use mathlib.Core.List.{List}
 use Prim.Native.Nat.{ℕ}
 use lib.ListN.{length, replicate}
 use Rattle.lent.specs.Limits.{deepest}
-use Rattle.tree.specs.Lent.{Lent, lent}
+use Rattle.tree.specs.Lent.{Lent}
 use Rattle.accept.specs.declared.Verdict.{Verdict}
 use Rattle.accept.specs.declared.Verdict.the-variants.{Accepted as Fine}
+use Rattle.accept.specs.Conditions.{foreign}
 use Rattle.accept.specs.Accept.{ruling, Outcome, outcome, accepted}
 use Rattle.accept.proofs.accept.Reads as accept-call
 use Rattle.trusted.specs.Meets.{Sound, Roomy, Meets}
@@ -35,5 +36,5 @@ module _ (s : Lent) (work : List ℕ) (v : Verdict) (after : List ℕ) (e : outc
     zeroed = λ f. let m = meets f in ap (λ (o : Outcome). o .work) (e ∙ meets-accepted s work (m .0) (m .1) (m .2));
   }
 
-pub accept-exactly : Gives accept-call.Post (λ κs x r e. Exactly (lent (x .0 .now) (x .1 .0 .now) (x .1 .1 .0 .now) (x .1 .1 .1 .0 .now)) (x .1 .1 .1 .1 .0 .now) r (e .1 .1 .1 .1 .0 .now))
+pub accept-exactly : Gives accept-call.Post (λ κs x r e. Exactly (foreign (x .0 .now) (x .1 .0 .now) (x .1 .1 .0 .now) (x .1 .1 .1 .0 .now)) (x .1 .1 .1 .1 .0 .now) r (e .1 .1 .1 .1 .0 .now))
 accept-exactly κs x r e p = exactly _ _ r _ p

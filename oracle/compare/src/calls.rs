@@ -6,6 +6,8 @@ pub type Walk = fn(&[f64], &[u32], &[f64], &[u32], &[f64; 6], &mut [f64; 7], &mu
 pub type Sky =
     fn(&[f64], &[u32], &[f64], &[u32], &[f64], &mut [f64], &mut [u64], &mut [u64; 1]) -> u32;
 
+pub type Accept = fn(&[f64], &[u32], &[f64], &[u32], &mut [u32], &mut [u64; 2]) -> u32;
+
 #[derive(Clone, Copy)]
 pub struct Calls {
     pub build: Build,
@@ -16,6 +18,7 @@ pub struct Calls {
     pub root: fn(f64) -> f64,
     pub new: fn(&[f64; 9], &mut [f64; 12]),
     pub normals: fn(&mut [f64], &mut [u64; 1]) -> u32,
+    pub accept: Accept,
 }
 
 pub const READING: Calls = Calls {
@@ -27,6 +30,7 @@ pub const READING: Calls = Calls {
     root: f64::sqrt,
     new: reading::calls::new,
     normals: reading::calls::normals,
+    accept: reading::calls::accept,
 };
 
 /// Equal bit for bit; two NaNs count as one.

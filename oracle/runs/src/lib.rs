@@ -14,6 +14,7 @@ pub const PIGEONMAST: Calls = Calls {
     root: raw::root,
     new: raw::new,
     normals: raw::normals,
+    accept: raw::accept,
 };
 
 /// A clear line, and the status of bad usage.

@@ -2,7 +2,7 @@
 use mathlib.Core.Path.{_≡_, refl, sym, _∙_, ap}
 use native.Mathlib.Omega.{arith}
 use lib.ListN.{length}
-use Rattle.tree.specs.Lent.{lent}
+use Rattle.accept.specs.Conditions.{foreign}
 use Rattle.accept.proofs.Verdicts.{says-1}
 use borrow.Author.Needs.{needs}
 use Rattle.accept.proofs.judge.Statement.{statement}
@@ -24,13 +24,13 @@ judge-parents-requires : tie.Need-judge-parents-requires
 judge-parents-requires c κs = search needs
 
 returns : tie.Need-returns
-returns c = (refl, c .broken .ensures ∙ says-1 (lent (c .before .before .before .before .before .before .before .before .before .before .args .triangles .now) (c .before .before .before .before .before .before .before .before .before .before .args .index .now) (c .before .before .before .before .before .before .before .before .before .before .args .boxes .now) (c .before .before .before .before .before .before .before .before .before .before .args .links .now)) (c .before .before .before .before .first-faulty .result) (c .before .before .before .before .first-faulty .ensures) .broken (c .before .before .i .given .0 .0) (c .before .before .i .given .1))
+returns c = (refl, c .broken .ensures ∙ says-1 (foreign (c .before .before .before .before .before .before .before .before .before .before .args .triangles .now) (c .before .before .before .before .before .before .before .before .before .before .args .index .now) (c .before .before .before .before .before .before .before .before .before .before .args .boxes .now) (c .before .before .before .before .before .before .before .before .before .before .args .links .now)) (c .before .before .before .before .first-faulty .result) (c .before .before .before .before .first-faulty .ensures) .broken (c .before .before .i .given .0 .0) (c .before .before .i .given .1))
 
 same-length : tie.Need-same-length
 same-length c = search needs
 
 returns-2 : tie.Need-returns-2
-returns-2 c = (c .before .before .judge-parents .ensures .0, c .before .before .judge-parents .ensures .1 ∙ says-1 (lent (c .before .before .before .before .before .before .before .before .before .before .before .before .args .triangles .now) (c .before .before .before .before .before .before .before .before .before .before .before .before .args .index .now) (c .before .before .before .before .before .before .before .before .before .before .before .before .args .boxes .now) (c .before .before .before .before .before .before .before .before .before .before .before .before .args .links .now)) (c .before .before .before .before .before .before .first-faulty .result) (c .before .before .before .before .before .before .first-faulty .ensures) .holds (c .before .before .before .before .enum-told .given .1))
+returns-2 c = (c .before .before .judge-parents .ensures .0, c .before .before .judge-parents .ensures .1 ∙ says-1 (foreign (c .before .before .before .before .before .before .before .before .before .before .before .before .args .triangles .now) (c .before .before .before .before .before .before .before .before .before .before .before .before .args .index .now) (c .before .before .before .before .before .before .before .before .before .before .before .before .args .boxes .now) (c .before .before .before .before .before .before .before .before .before .before .before .before .args .links .now)) (c .before .before .before .before .before .before .first-faulty .result) (c .before .before .before .before .before .before .first-faulty .ensures) .holds (c .before .before .before .before .enum-told .given .1))
 
 pub judge-spec : {M : Type 1} → statement M
 judge-spec =

@@ -2,7 +2,7 @@
 use mathlib.Core.Path.{_≡_, refl, sym, _∙_, ap}
 use native.Mathlib.Omega.{arith}
 use lib.ListN.{length}
-use Rattle.tree.specs.Lent.{lent}
+use Rattle.accept.specs.Conditions.{foreign}
 use Rattle.accept.proofs.Verdicts.{says-5, zeroed, zero-at}
 use borrow.Author.Needs.{needs}
 use Rattle.accept.proofs.judge_list.Statement.{statement}
@@ -30,13 +30,13 @@ same-length : tie.Need-same-length
 same-length c = c .before .before .before .before .before .before .first-misplaced .ensures .0 ∙ (zeroed (c .before .before .before .before .before .before .before .before .before .before .fill .last .0) (length (c .before .before .before .before .before .before .before .before .before .before .before .before .before .before .before .before .before .args .work .now)) (c .before .before .before .before .before .before .before .before .before .before .fill .ensures))
 
 returns : tie.Need-returns
-returns c = (c .before .before .before .before .before .before .first-misplaced .ensures .0 ∙ (zeroed (c .before .before .before .before .before .before .before .before .before .before .fill .last .0) (length (c .before .before .before .before .before .before .before .before .before .before .before .before .before .before .before .before .before .args .work .now)) (c .before .before .before .before .before .before .before .before .before .before .fill .ensures)), c .broken .ensures ∙ says-5 (lent (c .before .before .before .before .before .before .before .before .before .before .before .before .before .before .before .before .before .args .triangles .now) (c .before .before .before .before .before .before .before .before .before .before .before .before .before .before .before .before .before .args .index .now) (c .before .before .before .before .before .before .before .before .before .before .before .before .before .before .before .before .before .args .boxes .now) (c .before .before .before .before .before .before .before .before .before .before .before .before .before .before .before .before .before .args .links .now)) (c .before .before .before .before .before .before .first-misplaced .result) (c .before .before .before .before .before .before .first-misplaced .ensures .1) .broken (c .before .before .p .given .0 .0) (c .before .before .p .given .1))
+returns c = (c .before .before .before .before .before .before .first-misplaced .ensures .0 ∙ (zeroed (c .before .before .before .before .before .before .before .before .before .before .fill .last .0) (length (c .before .before .before .before .before .before .before .before .before .before .before .before .before .before .before .before .before .args .work .now)) (c .before .before .before .before .before .before .before .before .before .before .fill .ensures)), c .broken .ensures ∙ says-5 (foreign (c .before .before .before .before .before .before .before .before .before .before .before .before .before .before .before .before .before .args .triangles .now) (c .before .before .before .before .before .before .before .before .before .before .before .before .before .before .before .before .before .args .index .now) (c .before .before .before .before .before .before .before .before .before .before .before .before .before .before .before .before .before .args .boxes .now) (c .before .before .before .before .before .before .before .before .before .before .before .before .before .before .before .before .before .args .links .now)) (c .before .before .before .before .before .before .first-misplaced .result) (c .before .before .before .before .before .before .first-misplaced .ensures .1) .broken (c .before .before .p .given .0 .0) (c .before .before .p .given .1))
 
 same-length-2 : tie.Need-same-length-2
 same-length-2 c = c .before .before .before .before .before .first-misplaced .ensures .0 ∙ (zeroed (c .before .before .before .before .before .before .before .before .before .fill .last .0) (length (c .before .before .before .before .before .before .before .before .before .before .before .before .before .before .before .before .args .work .now)) (c .before .before .before .before .before .before .before .before .before .fill .ensures))
 
 returns-2 : tie.Need-returns-2
-returns-2 c = (c .before .before .before .before .before .first-misplaced .ensures .0 ∙ (zeroed (c .before .before .before .before .before .before .before .before .before .fill .last .0) (length (c .before .before .before .before .before .before .before .before .before .before .before .before .before .before .before .before .args .work .now)) (c .before .before .before .before .before .before .before .before .before .fill .ensures)), c .judge-boxes .ensures ∙ says-5 (lent (c .before .before .before .before .before .before .before .before .before .before .before .before .before .before .before .before .args .triangles .now) (c .before .before .before .before .before .before .before .before .before .before .before .before .before .before .before .before .args .index .now) (c .before .before .before .before .before .before .before .before .before .before .before .before .before .before .before .before .args .boxes .now) (c .before .before .before .before .before .before .before .before .before .before .before .before .before .before .before .before .args .links .now)) (c .before .before .before .before .before .first-misplaced .result) (c .before .before .before .before .before .first-misplaced .ensures .1) .holds (c .before .enum-told .given .1))
+returns-2 c = (c .before .before .before .before .before .first-misplaced .ensures .0 ∙ (zeroed (c .before .before .before .before .before .before .before .before .before .fill .last .0) (length (c .before .before .before .before .before .before .before .before .before .before .before .before .before .before .before .before .args .work .now)) (c .before .before .before .before .before .before .before .before .before .fill .ensures)), c .judge-boxes .ensures ∙ says-5 (foreign (c .before .before .before .before .before .before .before .before .before .before .before .before .before .before .before .before .args .triangles .now) (c .before .before .before .before .before .before .before .before .before .before .before .before .before .before .before .before .args .index .now) (c .before .before .before .before .before .before .before .before .before .before .before .before .before .before .before .before .args .boxes .now) (c .before .before .before .before .before .before .before .before .before .before .before .before .before .before .before .before .args .links .now)) (c .before .before .before .before .before .first-misplaced .result) (c .before .before .before .before .before .first-misplaced .ensures .1) .holds (c .before .enum-told .given .1))
 
 pub judge-list-spec : {M : Type 1} → statement M
 judge-list-spec =

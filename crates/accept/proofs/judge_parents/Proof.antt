@@ -2,7 +2,7 @@
 use mathlib.Core.Path.{_≡_, refl, sym, _∙_, ap}
 use native.Mathlib.Omega.{arith}
 use lib.ListN.{length}
-use Rattle.tree.specs.Lent.{lent}
+use Rattle.accept.specs.Conditions.{foreign}
 use Rattle.accept.proofs.Verdicts.{says-2, family, zeroed, zero-at}
 use borrow.Author.Needs.{needs}
 use Rattle.accept.proofs.judge_parents.Statement.{statement}
@@ -27,19 +27,19 @@ enum-told : tie.Need-enum-told
 enum-told c = search needs
 
 judge-reach-requires : tie.Need-judge-reach-requires
-judge-reach-requires c κs = ((c .before .before .before .before .before .before .before .before .before .before .before .before .before .before .before .before .before .before .pre .0, c .before .before .before .before .before .before .before .before .before .before .before .before .before .before .before .before .before .before .pre .1, omega (arith, c .before .before .before .before .before .before .before .name-parents .ensures .0, (zeroed (c .before .before .before .before .before .before .before .before .before .before .before .fill .last .0) (length (c .before .before .before .before .before .before .before .before .before .before .before .before .before .before .before .before .before .before .args .work .now)) (c .before .before .before .before .before .before .before .before .before .before .before .fill .ensures)), c .before .before .before .before .before .before .before .before .before .before .before .before .before .before .before .before .before .before .pre)), (c .before .before .before .before .before .before .before .name-parents .ensures .1, family (lent (c .before .before .before .before .before .before .before .before .before .before .before .before .before .before .before .before .before .before .args .triangles .now) (c .before .before .before .before .before .before .before .before .before .before .before .before .before .before .before .before .before .before .args .index .now) (c .before .before .before .before .before .before .before .before .before .before .before .before .before .before .before .before .before .before .args .boxes .now) (c .before .before .before .before .before .before .before .before .before .before .before .before .before .before .before .before .before .before .args .links .now)) (c .before .before .before .first-orphan .result) (c .before .before .before .before .before .before .before .before .before .before .before .before .before .before .before .before .before .before .pre .1) (c .before .before .before .before .before .before .before .name-parents .last .1 .0) (c .before .before .before .before .before .before .before .name-parents .ensures .1) (c .before .before .before .first-orphan .ensures) (c .before .enum-told .given .1)))
+judge-reach-requires c κs = ((c .before .before .before .before .before .before .before .before .before .before .before .before .before .before .before .before .before .before .pre .0, c .before .before .before .before .before .before .before .before .before .before .before .before .before .before .before .before .before .before .pre .1, omega (arith, c .before .before .before .before .before .before .before .name-parents .ensures .0, (zeroed (c .before .before .before .before .before .before .before .before .before .before .before .fill .last .0) (length (c .before .before .before .before .before .before .before .before .before .before .before .before .before .before .before .before .before .before .args .work .now)) (c .before .before .before .before .before .before .before .before .before .before .before .fill .ensures)), c .before .before .before .before .before .before .before .before .before .before .before .before .before .before .before .before .before .before .pre)), (c .before .before .before .before .before .before .before .name-parents .ensures .1, family (foreign (c .before .before .before .before .before .before .before .before .before .before .before .before .before .before .before .before .before .before .args .triangles .now) (c .before .before .before .before .before .before .before .before .before .before .before .before .before .before .before .before .before .before .args .index .now) (c .before .before .before .before .before .before .before .before .before .before .before .before .before .before .before .before .before .before .args .boxes .now) (c .before .before .before .before .before .before .before .before .before .before .before .before .before .before .before .before .before .before .args .links .now)) (c .before .before .before .first-orphan .result) (c .before .before .before .before .before .before .before .before .before .before .before .before .before .before .before .before .before .before .pre .1) (c .before .before .before .before .before .before .before .name-parents .last .1 .0) (c .before .before .before .before .before .before .before .name-parents .ensures .1) (c .before .before .before .first-orphan .ensures) (c .before .enum-told .given .1)))
 
 same-length : tie.Need-same-length
 same-length c = c .before .before .before .before .before .before .before .before .name-parents .ensures .0 ∙ (zeroed (c .before .before .before .before .before .before .before .before .before .before .before .before .fill .last .0) (length (c .before .before .before .before .before .before .before .before .before .before .before .before .before .before .before .before .before .before .before .args .work .now)) (c .before .before .before .before .before .before .before .before .before .before .before .before .fill .ensures))
 
 returns : tie.Need-returns
-returns c = (c .before .before .before .before .before .before .before .before .name-parents .ensures .0 ∙ (zeroed (c .before .before .before .before .before .before .before .before .before .before .before .before .fill .last .0) (length (c .before .before .before .before .before .before .before .before .before .before .before .before .before .before .before .before .before .before .before .args .work .now)) (c .before .before .before .before .before .before .before .before .before .before .before .before .fill .ensures)), c .broken .ensures ∙ says-2 (lent (c .before .before .before .before .before .before .before .before .before .before .before .before .before .before .before .before .before .before .before .args .triangles .now) (c .before .before .before .before .before .before .before .before .before .before .before .before .before .before .before .before .before .before .before .args .index .now) (c .before .before .before .before .before .before .before .before .before .before .before .before .before .before .before .before .before .before .before .args .boxes .now) (c .before .before .before .before .before .before .before .before .before .before .before .before .before .before .before .before .before .before .before .args .links .now)) (c .before .before .before .before .first-orphan .result) (c .before .before .before .before .before .before .before .before .before .before .before .before .before .before .before .before .before .before .before .pre .1) (c .before .before .before .before .before .before .before .before .name-parents .last .1 .0) (c .before .before .before .before .before .before .before .before .name-parents .ensures .1) (c .before .before .before .before .first-orphan .ensures) .broken (c .before .before .i .given .0 .0) (c .before .before .i .given .1))
+returns c = (c .before .before .before .before .before .before .before .before .name-parents .ensures .0 ∙ (zeroed (c .before .before .before .before .before .before .before .before .before .before .before .before .fill .last .0) (length (c .before .before .before .before .before .before .before .before .before .before .before .before .before .before .before .before .before .before .before .args .work .now)) (c .before .before .before .before .before .before .before .before .before .before .before .before .fill .ensures)), c .broken .ensures ∙ says-2 (foreign (c .before .before .before .before .before .before .before .before .before .before .before .before .before .before .before .before .before .before .before .args .triangles .now) (c .before .before .before .before .before .before .before .before .before .before .before .before .before .before .before .before .before .before .before .args .index .now) (c .before .before .before .before .before .before .before .before .before .before .before .before .before .before .before .before .before .before .before .args .boxes .now) (c .before .before .before .before .before .before .before .before .before .before .before .before .before .before .before .before .before .before .before .args .links .now)) (c .before .before .before .before .first-orphan .result) (c .before .before .before .before .before .before .before .before .before .before .before .before .before .before .before .before .before .before .before .pre .1) (c .before .before .before .before .before .before .before .before .name-parents .last .1 .0) (c .before .before .before .before .before .before .before .before .name-parents .ensures .1) (c .before .before .before .before .first-orphan .ensures) .broken (c .before .before .i .given .0 .0) (c .before .before .i .given .1))
 
 same-length-2 : tie.Need-same-length-2
 same-length-2 c = c .before .before .judge-reach .ensures .0 ∙ c .before .before .before .before .before .before .before .before .before .before .name-parents .ensures .0 ∙ (zeroed (c .before .before .before .before .before .before .before .before .before .before .before .before .before .before .fill .last .0) (length (c .before .before .before .before .before .before .before .before .before .before .before .before .before .before .before .before .before .before .before .before .before .args .work .now)) (c .before .before .before .before .before .before .before .before .before .before .before .before .before .before .fill .ensures))
 
 returns-2 : tie.Need-returns-2
-returns-2 c = (c .before .before .judge-reach .ensures .0 ∙ c .before .before .before .before .before .before .before .before .before .before .name-parents .ensures .0 ∙ (zeroed (c .before .before .before .before .before .before .before .before .before .before .before .before .before .before .fill .last .0) (length (c .before .before .before .before .before .before .before .before .before .before .before .before .before .before .before .before .before .before .before .before .before .args .work .now)) (c .before .before .before .before .before .before .before .before .before .before .before .before .before .before .fill .ensures)), c .before .before .judge-reach .ensures .1 ∙ says-2 (lent (c .before .before .before .before .before .before .before .before .before .before .before .before .before .before .before .before .before .before .before .before .before .args .triangles .now) (c .before .before .before .before .before .before .before .before .before .before .before .before .before .before .before .before .before .before .before .before .before .args .index .now) (c .before .before .before .before .before .before .before .before .before .before .before .before .before .before .before .before .before .before .before .before .before .args .boxes .now) (c .before .before .before .before .before .before .before .before .before .before .before .before .before .before .before .before .before .before .before .before .before .args .links .now)) (c .before .before .before .before .before .before .first-orphan .result) (c .before .before .before .before .before .before .before .before .before .before .before .before .before .before .before .before .before .before .before .before .before .pre .1) (c .before .before .before .before .before .before .before .before .before .before .name-parents .last .1 .0) (c .before .before .before .before .before .before .before .before .before .before .name-parents .ensures .1) (c .before .before .before .before .before .before .first-orphan .ensures) .holds (c .before .before .before .before .enum-told .given .1))
+returns-2 c = (c .before .before .judge-reach .ensures .0 ∙ c .before .before .before .before .before .before .before .before .before .before .name-parents .ensures .0 ∙ (zeroed (c .before .before .before .before .before .before .before .before .before .before .before .before .before .before .fill .last .0) (length (c .before .before .before .before .before .before .before .before .before .before .before .before .before .before .before .before .before .before .before .before .before .args .work .now)) (c .before .before .before .before .before .before .before .before .before .before .before .before .before .before .fill .ensures)), c .before .before .judge-reach .ensures .1 ∙ says-2 (foreign (c .before .before .before .before .before .before .before .before .before .before .before .before .before .before .before .before .before .before .before .before .before .args .triangles .now) (c .before .before .before .before .before .before .before .before .before .before .before .before .before .before .before .before .before .before .before .before .before .args .index .now) (c .before .before .before .before .before .before .before .before .before .before .before .before .before .before .before .before .before .before .before .before .before .args .boxes .now) (c .before .before .before .before .before .before .before .before .before .before .before .before .before .before .before .before .before .before .before .before .before .args .links .now)) (c .before .before .before .before .before .before .first-orphan .result) (c .before .before .before .before .before .before .before .before .before .before .before .before .before .before .before .before .before .before .before .before .before .pre .1) (c .before .before .before .before .before .before .before .before .before .before .name-parents .last .1 .0) (c .before .before .before .before .before .before .before .before .before .before .name-parents .ensures .1) (c .before .before .before .before .before .before .first-orphan .ensures) .holds (c .before .before .before .before .enum-told .given .1))
 
 pub judge-parents-spec : {M : Type 1} → statement M
 judge-parents-spec =

@@ -5,7 +5,7 @@ use native.Mathlib.Omega.{arith}
 use borrow.Author.Tests.{not-true, not-false}
 use Rattle.aabb.specs.declared.bounds.Aabb.{Aabb}
 use Rattle.aabb.specs.Bounds.{bounded}
-use Rattle.tree.specs.Lent.{lent}
+use Rattle.accept.specs.Conditions.{foreign}
 use Rattle.accept.proofs.Faults.{bad-box, hollow, of-leaf, bad-kind, bad-count, of-inner}
 use borrow.Author.Needs.{needs}
 use Rattle.accept.proofs.nodes.faulty.Statement.{statement}
@@ -57,28 +57,28 @@ bounded-requires : tie.Need-bounded-requires
 bounded-requires c κs = search needs
 
 returns : tie.Need-returns
-returns c = λ mesh. bad-box (lent mesh (c .before .before .before .before .before .before .before .before .before .args .index .now) (c .before .before .before .before .before .before .before .before .before .args .boxes .now) (c .before .before .before .before .before .before .before .before .before .args .links .now)) (c .before .before .before .before .before .before .before .before .before .args .i) (ap (λ (x : Aabb). bounded x) (sym (c .before .before .read .ensures)) ∙ sym (c .before .bounded .ensures) ∙ not-true (c .before .bounded .result) (c .if1 .taken))
+returns c = λ mesh. bad-box (foreign mesh (c .before .before .before .before .before .before .before .before .before .args .index .now) (c .before .before .before .before .before .before .before .before .before .args .boxes .now) (c .before .before .before .before .before .before .before .before .before .args .links .now)) (c .before .before .before .before .before .before .before .before .before .args .i) (ap (λ (x : Aabb). bounded x) (sym (c .before .before .read .ensures)) ∙ sym (c .before .bounded .ensures) ∙ not-true (c .before .bounded .result) (c .if1 .taken))
 
 returns-2 : tie.Need-returns-2
-returns-2 c = λ mesh. hollow (lent mesh (c .before .before .before .before .before .before .before .before .before .before .before .args .index .now) (c .before .before .before .before .before .before .before .before .before .before .before .args .boxes .now) (c .before .before .before .before .before .before .before .before .before .before .before .args .links .now)) (c .before .before .before .before .before .before .before .before .before .before .before .args .i) (c .before .if2 .taken) (c .if3 .taken)
+returns-2 c = λ mesh. hollow (foreign mesh (c .before .before .before .before .before .before .before .before .before .before .before .args .index .now) (c .before .before .before .before .before .before .before .before .before .before .before .args .boxes .now) (c .before .before .before .before .before .before .before .before .before .before .before .args .links .now)) (c .before .before .before .before .before .before .before .before .before .before .before .args .i) (c .before .if2 .taken) (c .if3 .taken)
 
 add-result : tie.Need-add-result
 add-result c = omega (arith, c .before .before .before .before .before .before .before .shared-slice-known4 .given (c .before .before .before .before .before .before .before .before .before .before .before .args .i * 3), c .before .before .before .before .before .before .shared-slice-known5 .given (c .before .before .before .before .before .before .before .before .before .before .before .args .i * 3 + 1))
 
 returns-3 : tie.Need-returns-3
-returns-3 c = λ mesh. of-leaf (lent mesh (c .before .before .before .before .before .before .before .before .before .before .before .args .index .now) (c .before .before .before .before .before .before .before .before .before .before .before .args .boxes .now) (c .before .before .before .before .before .before .before .before .before .before .before .args .links .now)) (c .before .before .before .before .before .before .before .before .before .before .before .args .i) (ap (λ (x : Aabb). bounded x) (sym (c .before .before .before .before .read .ensures)) ∙ sym (c .before .before .before .bounded .ensures) ∙ not-false (c .before .before .before .bounded .result) (c .before .before .if1 .left)) (c .before .if2 .taken) (c .if3 .left)
+returns-3 c = λ mesh. of-leaf (foreign mesh (c .before .before .before .before .before .before .before .before .before .before .before .args .index .now) (c .before .before .before .before .before .before .before .before .before .before .before .args .boxes .now) (c .before .before .before .before .before .before .before .before .before .before .before .args .links .now)) (c .before .before .before .before .before .before .before .before .before .before .before .args .i) (ap (λ (x : Aabb). bounded x) (sym (c .before .before .before .before .read .ensures)) ∙ sym (c .before .before .before .bounded .ensures) ∙ not-false (c .before .before .before .bounded .result) (c .before .before .if1 .left)) (c .before .if2 .taken) (c .if3 .left)
 
 returns-4 : tie.Need-returns-4
-returns-4 c = λ mesh. bad-kind (lent mesh (c .before .before .before .before .before .before .before .before .before .before .before .args .index .now) (c .before .before .before .before .before .before .before .before .before .before .before .args .boxes .now) (c .before .before .before .before .before .before .before .before .before .before .before .args .links .now)) (c .before .before .before .before .before .before .before .before .before .before .before .args .i) (ap (λ (x : Aabb). bounded x) (sym (c .before .before .before .before .read .ensures)) ∙ sym (c .before .before .before .bounded .ensures) ∙ not-false (c .before .before .before .bounded .result) (c .before .before .if1 .left)) (c .before .if2 .left) (c .if4 .taken)
+returns-4 c = λ mesh. bad-kind (foreign mesh (c .before .before .before .before .before .before .before .before .before .before .before .args .index .now) (c .before .before .before .before .before .before .before .before .before .before .before .args .boxes .now) (c .before .before .before .before .before .before .before .before .before .before .before .args .links .now)) (c .before .before .before .before .before .before .before .before .before .before .before .args .i) (ap (λ (x : Aabb). bounded x) (sym (c .before .before .before .before .read .ensures)) ∙ sym (c .before .before .before .bounded .ensures) ∙ not-false (c .before .before .before .bounded .result) (c .before .before .if1 .left)) (c .before .if2 .left) (c .if4 .taken)
 
 returns-5 : tie.Need-returns-5
-returns-5 c = λ mesh. bad-count (lent mesh (c .before .before .before .before .before .before .before .before .before .before .before .before .args .index .now) (c .before .before .before .before .before .before .before .before .before .before .before .before .args .boxes .now) (c .before .before .before .before .before .before .before .before .before .before .before .before .args .links .now)) (c .before .before .before .before .before .before .before .before .before .before .before .before .args .i) (ap (λ (x : Aabb). bounded x) (sym (c .before .before .before .before .before .read .ensures)) ∙ sym (c .before .before .before .before .bounded .ensures) ∙ not-false (c .before .before .before .before .bounded .result) (c .before .before .before .if1 .left)) (c .before .before .if2 .left) (c .if5 .taken)
+returns-5 c = λ mesh. bad-count (foreign mesh (c .before .before .before .before .before .before .before .before .before .before .before .before .args .index .now) (c .before .before .before .before .before .before .before .before .before .before .before .before .args .boxes .now) (c .before .before .before .before .before .before .before .before .before .before .before .before .args .links .now)) (c .before .before .before .before .before .before .before .before .before .before .before .before .args .i) (ap (λ (x : Aabb). bounded x) (sym (c .before .before .before .before .before .read .ensures)) ∙ sym (c .before .before .before .before .bounded .ensures) ∙ not-false (c .before .before .before .before .bounded .result) (c .before .before .before .if1 .left)) (c .before .before .if2 .left) (c .if5 .taken)
 
 add-result-2 : tie.Need-add-result-2
 add-result-2 c = omega (arith, c .before .before .before .before .before .before .before .before .shared-slice-known4 .given (c .before .before .before .before .before .before .before .before .before .before .before .before .args .i * 3))
 
 returns-6 : tie.Need-returns-6
-returns-6 c = λ mesh. of-inner (lent mesh (c .before .before .before .before .before .before .before .before .before .before .before .before .args .index .now) (c .before .before .before .before .before .before .before .before .before .before .before .before .args .boxes .now) (c .before .before .before .before .before .before .before .before .before .before .before .before .args .links .now)) (c .before .before .before .before .before .before .before .before .before .before .before .before .args .i) (ap (λ (x : Aabb). bounded x) (sym (c .before .before .before .before .before .read .ensures)) ∙ sym (c .before .before .before .before .bounded .ensures) ∙ not-false (c .before .before .before .before .bounded .result) (c .before .before .before .if1 .left)) (c .before .if4 .left) (c .if5 .left)
+returns-6 c = λ mesh. of-inner (foreign mesh (c .before .before .before .before .before .before .before .before .before .before .before .before .args .index .now) (c .before .before .before .before .before .before .before .before .before .before .before .before .args .boxes .now) (c .before .before .before .before .before .before .before .before .before .before .before .before .args .links .now)) (c .before .before .before .before .before .before .before .before .before .before .before .before .args .i) (ap (λ (x : Aabb). bounded x) (sym (c .before .before .before .before .before .read .ensures)) ∙ sym (c .before .before .before .before .bounded .ensures) ∙ not-false (c .before .before .before .before .bounded .result) (c .before .before .before .if1 .left)) (c .before .if4 .left) (c .if5 .left)
 
 pub faulty-spec : {M : Type 1} → statement M
 faulty-spec =

@@ -3,9 +3,9 @@ use mathlib.Core.Path.{_≡_, sym, _∙_, ap}
 use mathlib.Core.Bool.{not}
 use Prim.Native.Nat.{ℕ, _-_}
 use native.Mathlib.Omega.{arith}
-use Rattle.tree.specs.Lent.{lent, nodeCount}
+use Rattle.tree.specs.Lent.{nodeCount}
 use Rattle.accept.specs.Lowest.{lowest}
-use Rattle.accept.specs.Conditions.{breaks-1}
+use Rattle.accept.specs.Conditions.{foreign, breaks-1}
 use Rattle.accept.proofs.Lowest.{start, on, stop, end, all-clear}
 use Rattle.accept.proofs.Faults.{of-empty, of-mesh}
 use borrow.Author.Needs.{needs}
@@ -13,7 +13,7 @@ use Rattle.accept.proofs.nodes.first_faulty.Statement.{statement}
 use Rattle.accept.proofs.nodes.first_faulty.Tie as tie
 
 abbrev Inv-loop : tie.InvT-loop
-Inv-loop triangles index boxes links nodes i₀ i = lowest (breaks-1 (lent triangles index boxes links)) i (nodeCount links - i) ≡ lowest (breaks-1 (lent triangles index boxes links)) 0 (nodeCount links)
+Inv-loop triangles index boxes links nodes i₀ i = lowest (breaks-1 (foreign triangles index boxes links)) i (nodeCount links - i) ≡ lowest (breaks-1 (foreign triangles index boxes links)) 0 (nodeCount links)
 
 abbrev μ-loop : tie.MeasureT-loop
 μ-loop triangles index boxes links nodes i₀ i = nodeCount links - i
@@ -22,19 +22,19 @@ single-requires : tie.Need-single-requires Inv-loop μ-loop
 single-requires c κs = search needs
 
 returns : tie.Need-returns Inv-loop μ-loop
-returns c = sym (all-clear (breaks-1 (lent (c .before .before .before .before .before .before .before .args .triangles .now) (c .before .before .before .before .before .before .before .args .index .now) (c .before .before .before .before .before .before .before .args .boxes .now) (c .before .before .before .before .before .before .before .args .links .now))) 0 (nodeCount (c .before .before .before .before .before .before .before .args .links .now)) (λ i. of-empty (lent (c .before .before .before .before .before .before .before .args .triangles .now) (c .before .before .before .before .before .before .before .args .index .now) (c .before .before .before .before .before .before .before .args .boxes .now) (c .before .before .before .before .before .before .before .args .links .now)) _ i (c .before .before .if1 .taken) (c .before .single .ensures _) ∙ ap not (c .if2 .taken)))
+returns c = sym (all-clear (breaks-1 (foreign (c .before .before .before .before .before .before .before .args .triangles .now) (c .before .before .before .before .before .before .before .args .index .now) (c .before .before .before .before .before .before .before .args .boxes .now) (c .before .before .before .before .before .before .before .args .links .now))) 0 (nodeCount (c .before .before .before .before .before .before .before .args .links .now)) (λ i. of-empty (foreign (c .before .before .before .before .before .before .before .args .triangles .now) (c .before .before .before .before .before .before .before .args .index .now) (c .before .before .before .before .before .before .before .args .boxes .now) (c .before .before .before .before .before .before .before .args .links .now)) _ i (c .before .before .if1 .taken) (c .before .single .ensures _) ∙ ap not (c .if2 .taken)))
 
 returns-2 : tie.Need-returns-2 Inv-loop μ-loop
-returns-2 c = sym (sym (start (breaks-1 (lent (c .before .before .before .before .before .before .before .args .triangles .now) (c .before .before .before .before .before .before .before .args .index .now) (c .before .before .before .before .before .before .before .args .boxes .now) (c .before .before .before .before .before .before .before .args .links .now))) (nodeCount (c .before .before .before .before .before .before .before .args .links .now))) ∙ stop (breaks-1 (lent (c .before .before .before .before .before .before .before .args .triangles .now) (c .before .before .before .before .before .before .before .args .index .now) (c .before .before .before .before .before .before .before .args .boxes .now) (c .before .before .before .before .before .before .before .args .links .now))) 0 (nodeCount (c .before .before .before .before .before .before .before .args .links .now)) (c .before .before .before .before .before .before .before .pre) (of-empty (lent (c .before .before .before .before .before .before .before .args .triangles .now) (c .before .before .before .before .before .before .before .args .index .now) (c .before .before .before .before .before .before .before .args .boxes .now) (c .before .before .before .before .before .before .before .args .links .now)) _ 0 (c .before .before .if1 .taken) (c .before .single .ensures _) ∙ ap not (c .if2 .left)))
+returns-2 c = sym (sym (start (breaks-1 (foreign (c .before .before .before .before .before .before .before .args .triangles .now) (c .before .before .before .before .before .before .before .args .index .now) (c .before .before .before .before .before .before .before .args .boxes .now) (c .before .before .before .before .before .before .before .args .links .now))) (nodeCount (c .before .before .before .before .before .before .before .args .links .now))) ∙ stop (breaks-1 (foreign (c .before .before .before .before .before .before .before .args .triangles .now) (c .before .before .before .before .before .before .before .args .index .now) (c .before .before .before .before .before .before .before .args .boxes .now) (c .before .before .before .before .before .before .before .args .links .now))) 0 (nodeCount (c .before .before .before .before .before .before .before .args .links .now)) (c .before .before .before .before .before .before .before .pre) (of-empty (foreign (c .before .before .before .before .before .before .before .args .triangles .now) (c .before .before .before .before .before .before .before .args .index .now) (c .before .before .before .before .before .before .before .args .boxes .now) (c .before .before .before .before .before .before .before .args .links .now)) _ 0 (c .before .before .if1 .taken) (c .before .single .ensures _) ∙ ap not (c .if2 .left)))
 
 loop-holds : tie.Need-loop-holds Inv-loop μ-loop
-loop-holds c = start (breaks-1 (lent (c .before .before .before .before .before .args .triangles .now) (c .before .before .before .before .before .args .index .now) (c .before .before .before .before .before .args .boxes .now) (c .before .before .before .before .before .args .links .now))) (nodeCount (c .before .before .before .before .before .args .links .now))
+loop-holds c = start (breaks-1 (foreign (c .before .before .before .before .before .args .triangles .now) (c .before .before .before .before .before .args .index .now) (c .before .before .before .before .before .args .boxes .now) (c .before .before .before .before .before .args .links .now))) (nodeCount (c .before .before .before .before .before .args .links .now))
 
 faulty-requires : tie.Need-faulty-requires Inv-loop μ-loop
 faulty-requires c κs = omega (arith, c .loop-test .taken)
 
 returns-3 : tie.Need-returns-3 Inv-loop μ-loop
-returns-3 c = sym (stop (breaks-1 (lent (c .before .before .before .before .before .before .before .before .before .args .triangles .now) (c .before .before .before .before .before .before .before .before .before .args .index .now) (c .before .before .before .before .before .before .before .before .before .args .boxes .now) (c .before .before .before .before .before .before .before .before .before .args .links .now))) (c .before .before .before .loop .i) (nodeCount (c .before .before .before .before .before .before .before .before .before .args .links .now)) (c .before .before .loop-test .taken) (of-mesh (lent (c .before .before .before .before .before .before .before .before .before .args .triangles .now) (c .before .before .before .before .before .before .before .before .before .args .index .now) (c .before .before .before .before .before .before .before .before .before .args .boxes .now) (c .before .before .before .before .before .before .before .before .before .args .links .now)) (c .before .before .before .loop .i) (c .before .before .before .before .if1 .left) ∙ sym (c .before .faulty .ensures _) ∙ c .if3 .taken)) ∙ c .before .before .before .loop .inv
+returns-3 c = sym (stop (breaks-1 (foreign (c .before .before .before .before .before .before .before .before .before .args .triangles .now) (c .before .before .before .before .before .before .before .before .before .args .index .now) (c .before .before .before .before .before .before .before .before .before .args .boxes .now) (c .before .before .before .before .before .before .before .before .before .args .links .now))) (c .before .before .before .loop .i) (nodeCount (c .before .before .before .before .before .before .before .before .before .args .links .now)) (c .before .before .loop-test .taken) (of-mesh (foreign (c .before .before .before .before .before .before .before .before .before .args .triangles .now) (c .before .before .before .before .before .before .before .before .before .args .index .now) (c .before .before .before .before .before .before .before .before .before .args .boxes .now) (c .before .before .before .before .before .before .before .before .before .args .links .now)) (c .before .before .before .loop .i) (c .before .before .before .before .if1 .left) ∙ sym (c .before .faulty .ensures _) ∙ c .if3 .taken)) ∙ c .before .before .before .loop .inv
 
 add-i : tie.Need-add-i Inv-loop μ-loop
 add-i c = omega (arith, c .before .before .loop-test .taken)
@@ -43,10 +43,10 @@ loop-less : tie.Need-loop-less Inv-loop μ-loop
 loop-less c = omega (arith, c .before .before .loop-test .taken)
 
 loop-again : tie.Need-loop-again Inv-loop μ-loop
-loop-again c = sym (on (breaks-1 (lent (c .before .before .before .before .before .before .before .before .before .args .triangles .now) (c .before .before .before .before .before .before .before .before .before .args .index .now) (c .before .before .before .before .before .before .before .before .before .args .boxes .now) (c .before .before .before .before .before .before .before .before .before .args .links .now))) (c .before .before .before .loop .i) (nodeCount (c .before .before .before .before .before .before .before .before .before .args .links .now)) (c .before .before .loop-test .taken) (of-mesh (lent (c .before .before .before .before .before .before .before .before .before .args .triangles .now) (c .before .before .before .before .before .before .before .before .before .args .index .now) (c .before .before .before .before .before .before .before .before .before .args .boxes .now) (c .before .before .before .before .before .before .before .before .before .args .links .now)) (c .before .before .before .loop .i) (c .before .before .before .before .if1 .left) ∙ sym (c .before .faulty .ensures _) ∙ c .if3 .left)) ∙ c .before .before .before .loop .inv
+loop-again c = sym (on (breaks-1 (foreign (c .before .before .before .before .before .before .before .before .before .args .triangles .now) (c .before .before .before .before .before .before .before .before .before .args .index .now) (c .before .before .before .before .before .before .before .before .before .args .boxes .now) (c .before .before .before .before .before .before .before .before .before .args .links .now))) (c .before .before .before .loop .i) (nodeCount (c .before .before .before .before .before .before .before .before .before .args .links .now)) (c .before .before .loop-test .taken) (of-mesh (foreign (c .before .before .before .before .before .before .before .before .before .args .triangles .now) (c .before .before .before .before .before .before .before .before .before .args .index .now) (c .before .before .before .before .before .before .before .before .before .args .boxes .now) (c .before .before .before .before .before .before .before .before .before .args .links .now)) (c .before .before .before .loop .i) (c .before .before .before .before .if1 .left) ∙ sym (c .before .faulty .ensures _) ∙ c .if3 .left)) ∙ c .before .before .before .loop .inv
 
 returns-4 : tie.Need-returns-4 Inv-loop μ-loop
-returns-4 c = sym (end (breaks-1 (lent (c .before .before .before .before .before .before .before .args .triangles .now) (c .before .before .before .before .before .before .before .args .index .now) (c .before .before .before .before .before .before .before .args .boxes .now) (c .before .before .before .before .before .before .before .args .links .now))) (c .before .loop .i) (nodeCount (c .before .before .before .before .before .before .before .args .links .now)) (c .loop-test .left)) ∙ c .before .loop .inv
+returns-4 c = sym (end (breaks-1 (foreign (c .before .before .before .before .before .before .before .args .triangles .now) (c .before .before .before .before .before .before .before .args .index .now) (c .before .before .before .before .before .before .before .args .boxes .now) (c .before .before .before .before .before .before .before .args .links .now))) (c .before .loop .i) (nodeCount (c .before .before .before .before .before .before .before .args .links .now)) (c .loop-test .left)) ∙ c .before .loop .inv
 
 pub first-faulty-spec : {M : Type 1} → statement M
 first-faulty-spec =

@@ -24,13 +24,13 @@ returns c =
     let l = c .before .before .loop in
     sym (climb-there (c .before .before .before .before .args .work .now) (l .left) (l .at) (c .before .loop-test .taken) (c .if1 .taken)) ∙ l .inv
 
-read-requires : tie.Need-read-requires Inv-loop μ-loop
-read-requires c κs = search needs
+word-requires : tie.Need-word-requires Inv-loop μ-loop
+word-requires c κs = search needs
 
 returns-2 : tie.Need-returns-2 Inv-loop μ-loop
 returns-2 c =
     let l = c .before .before .before .before .loop in
-    sym (climb-none (c .before .before .before .before .before .before .args .work .now) (l .left) (l .at) (c .before .before .before .loop-test .taken) (c .before .before .if1 .left) (sym (c .before .read .ensures) ∙ c .if2 .taken)) ∙ l .inv
+    sym (climb-none (c .before .before .before .before .before .before .args .work .now) (l .left) (l .at) (c .before .before .before .loop-test .taken) (c .before .before .if1 .left) (sym (c .before .word .ensures) ∙ c .if2 .taken)) ∙ l .inv
 
 cast-at : tie.Need-cast-at Inv-loop μ-loop
 cast-at c = search needs
@@ -48,7 +48,7 @@ loop-again : tie.Need-loop-again Inv-loop μ-loop
 loop-again c =
     let l = c .before .before .before .before .loop in
     let w = c .before .before .before .before .before .before .args .work .now in
-    ap (λ (k : ℕ). climbs w (l .left - 1) (k - 1)) (c .before .read .ensures) ∙ sym (climb-on w (l .left) (l .at) (c .before .before .before .loop-test .taken) (c .before .before .if1 .left) (λ e. c .if2 .left (c .before .read .ensures ∙ e))) ∙ l .inv
+    ap (λ (k : ℕ). climbs w (l .left - 1) (k - 1)) (c .before .word .ensures) ∙ sym (climb-on w (l .left) (l .at) (c .before .before .before .loop-test .taken) (c .before .before .if1 .left) (λ e. c .if2 .left (c .before .word .ensures ∙ e))) ∙ l .inv
 
 returns-3 : tie.Need-returns-3 Inv-loop μ-loop
 returns-3 c =
@@ -63,7 +63,7 @@ climbs-spec =
     μ-loop
     loop-holds
     returns
-    read-requires
+    word-requires
     returns-2
     cast-at
     sub-at

@@ -5,20 +5,20 @@ use borrow.Author.Needs.{needs}
 use Rattle.accept.proofs.parents.orphan.Statement.{statement}
 use Rattle.accept.proofs.parents.orphan.Tie as tie
 
-read-requires : tie.Need-read-requires
-read-requires c κs = search needs
+word-requires : tie.Need-word-requires
+word-requires c κs = search needs
 
 returns : tie.Need-returns
 unfolding orphan
-returns c = rw (← c .before .read .ensures, eq-eqb _ _ (c .if1 .taken))
+returns c = rw (← c .before .word .ensures, eq-eqb _ _ (c .if1 .taken))
 
 returns-2 : tie.Need-returns-2
 unfolding orphan
-returns-2 c = rw (← c .before .before .read .ensures, ne-eqb _ _ (c .before .if1 .left), eq-eqb _ _ (c .if2 .taken))
+returns-2 c = rw (← c .before .before .word .ensures, ne-eqb _ _ (c .before .if1 .left), eq-eqb _ _ (c .if2 .taken))
 
 returns-3 : tie.Need-returns-3
 unfolding orphan
-returns-3 c = rw (← c .before .before .read .ensures, ne-eqb _ _ (c .before .if1 .left), ne-eqb _ _ (c .if2 .left))
+returns-3 c = rw (← c .before .before .word .ensures, ne-eqb _ _ (c .before .if1 .left), ne-eqb _ _ (c .if2 .left))
 
 pub orphan-spec : {M : Type 1} → statement M
-orphan-spec = tie.close (tie.spec read-requires returns returns-2 returns-3)
+orphan-spec = tie.close (tie.spec word-requires returns returns-2 returns-3)
