@@ -1,7 +1,7 @@
 use std::error::Error;
 use std::fmt;
 
-use crate::Condition;
+use crate::{raw, Condition};
 
 /// Why a call was refused, or one of its rays: the table of refusals in
 /// docs/RULES.md, by name. More names may come with later calls.
@@ -63,6 +63,8 @@ pub enum Refusal {
     RayNumbers,
     /// 16: lent room is too short.
     RoomTooShort,
+    /// 18: the materials are not one for each triangle.
+    MaterialList,
     /// 19: a tree that was built elsewhere is not accepted.
     ConditionBroken {
         /// The first condition that is broken.
@@ -98,6 +100,7 @@ impl Refusal {
             13 => Self::AnswerRoom,
             14 => Self::RayNumbers,
             16 => Self::RoomTooShort,
+            18 => Self::MaterialList,
             _ => Self::Unknown { number, at },
         }
     }
@@ -132,6 +135,7 @@ impl Refusal {
             Self::AnswerRoom => 13,
             Self::RayNumbers => 14,
             Self::RoomTooShort => 16,
+            Self::MaterialList => 18,
             Self::ConditionBroken { .. } => 19,
             Self::Unknown { number, .. } => *number,
         }
@@ -202,14 +206,20 @@ impl fmt::Display for Refusal {
                 f,
                 "more boxes would be tested than there are nodes, at node {node}; some node is reached twice: build the tree again"
             ),
-            Self::AnswerRoom => f.write_str(
-                "the answer room is too short; lend one number of times and four of told for each ray",
+            Self::AnswerRoom => write!(
+                f,
+                "the answer room is too short; lend {} of times and {} of told for each ray",
+                raw::PLACE_TIMES,
+                raw::PLACE_TOLD
             ),
             Self::RayNumbers => {
                 f.write_str("the rays' numbers do not come in sixes; give origin and direction of each")
             }
             Self::RoomTooShort => {
                 f.write_str("the lent room is too short; lend one number for each node and each triangle")
+            }
+            Self::MaterialList => {
+                f.write_str("the materials are not as many as the triangles; give one for each")
             }
             Self::ConditionBroken { condition, place } => condition.broken_at(*place, f),
             Self::Unknown { at, .. } => {
