@@ -87,9 +87,9 @@ fn each_condition_tells_its_lowest_place() {
 #[test]
 fn other_refusals_go_first() {
     let told = |r: Result<Bvh, Refusal>| r.map_err(|r| (r.number(), r.at())).unwrap_err();
-    assert_eq!(told(with(|l| drop(l.mesh.pop()))), (1, 0));
+    assert_eq!(told(with(|l| l.mesh.truncate(59))), (1, 0));
     assert_eq!(told(with(|l| l.mesh.resize(12 * 65_537, 0.0))), (2, 65_537));
-    assert_eq!(told(with(|l| drop(l.links.pop()))), (8, 0));
+    assert_eq!(told(with(|l| l.links.truncate(8))), (8, 0));
     let late = |l: &mut Lists| {
         l.mesh[12 * 3] = f64::NAN;
         l.links[7] = 0;
