@@ -18,10 +18,9 @@ abbrev μ-loop : tie.MeasureT-loop
 μ-loop triangles index boxes links nodes i₀ i = nodeCount links - i
 
 loop-holds : tie.Need-loop-holds Inv-loop μ-loop
-loop-holds c = start (breaks-6 (foreign (c .before .before .before .before .args .triangles .now) (c .before .before .before .before .args .index .now) (c .before .before .before .before .args .boxes .now) (c .before .before .before .before .args .links .now))) (nodeCount (c .before .before .before .before .args .links .now))
-
-encloses-requires : tie.Need-encloses-requires Inv-loop μ-loop
-encloses-requires c κs = search needs
+loop-holds c =
+    let a = c .before .before .before .before .args in
+    start (breaks-6 (foreign (a .triangles .now) (a .index .now) (a .boxes .now) (a .links .now))) (nodeCount (a .links .now))
 
 returns : tie.Need-returns Inv-loop μ-loop
 unfolding breaks-6
@@ -56,7 +55,7 @@ first-loose-spec =
     Inv-loop
     μ-loop
     loop-holds
-    encloses-requires
+    (λ c κs. search needs)
     returns
     add-i
     loop-less

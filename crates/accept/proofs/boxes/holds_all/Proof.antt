@@ -5,23 +5,11 @@ use borrow.Author.Needs.{needs}
 use Rattle.accept.proofs.boxes.holds_all.Statement.{statement}
 use Rattle.accept.proofs.boxes.holds_all.Tie as tie
 
-read-requires : tie.Need-read-requires
-read-requires c κs = search needs
-
-holds-requires : tie.Need-holds-requires
-holds-requires c κs = search needs
-
 returns : tie.Need-returns
 returns c = rw (of-corners _ _ _ (c .before .before .read .ensures), ← c .before .holds .ensures, not-true (c .before .holds .result) (c .if1 .taken))
 
-holds-requires-2 : tie.Need-holds-requires-2
-holds-requires-2 c κs = search needs
-
 returns-2 : tie.Need-returns-2
 returns-2 c = rw (of-corners _ _ _ (c .before .before .before .before .read .ensures), ← c .before .before .before .holds .ensures, not-false (c .before .before .before .holds .result) (c .before .before .if1 .left), ← c .before .holds2 .ensures, not-true (c .before .holds2 .result) (c .if2 .taken))
-
-holds-requires-3 : tie.Need-holds-requires-3
-holds-requires-3 c κs = search needs
 
 returns-3 : tie.Need-returns-3
 returns-3 c = rw (of-corners _ _ _ (c .before .before .before .before .before .read .ensures), ← c .before .before .before .before .holds .ensures, not-false (c .before .before .before .before .holds .result) (c .before .before .before .if1 .left), ← c .before .before .holds2 .ensures, not-false (c .before .before .holds2 .result) (c .before .if2 .left)) (c .holds3 .ensures)
@@ -30,10 +18,10 @@ pub holds-all-spec : {M : Type 1} → statement M
 holds-all-spec =
     tie.close
     (tie.spec
-    read-requires
-    holds-requires
+    (λ c κs. search needs)
+    (λ c κs. search needs)
     returns
-    holds-requires-2
+    (λ c κs. search needs)
     returns-2
-    holds-requires-3
+    (λ c κs. search needs)
     returns-3)

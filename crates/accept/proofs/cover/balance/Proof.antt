@@ -16,14 +16,10 @@ Inv-loop links work₀ from nodes i₀ work i = (i ≤ nodeCount links) × (leng
 abbrev μ-loop : tie.MeasureT-loop
 μ-loop links work₀ from nodes i₀ work i = nodeCount links - i
 
-cast-fill : tie.Need-cast-fill Inv-loop μ-loop
-cast-fill c = search needs
-
-fill-requires : tie.Need-fill-requires Inv-loop μ-loop
-fill-requires c κs = search needs
-
 loop-holds : tie.Need-loop-holds Inv-loop μ-loop
-loop-holds c = (search needs, refl, balance-start (c .before .before .before .before .before .before .args .links .now) (c .before .before .fill .last .0) (c .before .before .before .before .before .before .args .from) (length (c .before .before .before .before .before .before .args .work .now)) (c .before .before .fill .ensures))
+loop-holds c =
+    let a = c .before .before .before .before .before .before .args in
+    (search needs, refl, balance-start (a .links .now) (c .before .before .fill .last .0) (a .from) (length (a .work .now)) (c .before .before .fill .ensures))
 
 weigh-requires : tie.Need-weigh-requires Inv-loop μ-loop
 weigh-requires c κs = (omega (arith, c .before .loop-test .taken), c .before .before .before .before .before .before .before .before .before .pre, c .before .before .loop .inv .2)
@@ -57,8 +53,8 @@ balance-spec =
     (tie.spec
     Inv-loop
     μ-loop
-    cast-fill
-    fill-requires
+    (λ c. search needs)
+    (λ c κs. search needs)
     loop-holds
     weigh-requires
     add-i

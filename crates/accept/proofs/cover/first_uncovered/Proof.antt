@@ -17,7 +17,9 @@ abbrev μ-loop : tie.MeasureT-loop
 μ-loop places links work₀ from₀ work from = places - from
 
 loop-holds : tie.Need-loop-holds Inv-loop μ-loop
-loop-holds c = (search needs, refl, start (uneven (c .before .before .args .links .now)) (c .before .before .args .places))
+loop-holds c =
+    let a = c .before .before .args in
+    (search needs, refl, start (uneven (a .links .now)) (a .places))
 
 balance-requires : tie.Need-balance-requires Inv-loop μ-loop
 balance-requires c κs = c .before .before .before .before .before .pre .0
@@ -25,29 +27,21 @@ balance-requires c κs = c .before .before .before .before .before .pre .0
 sub-part : tie.Need-sub-part Inv-loop μ-loop
 sub-part c = omega (arith, c .before .before .before .before .loop-test .taken)
 
-part-requires : tie.Need-part-requires Inv-loop μ-loop
-part-requires c κs = search needs
-
 add-end : tie.Need-add-end Inv-loop μ-loop
 add-end c = omega (arith, c .part .ensures, c .before .before .before .before .before .loop-test .taken)
 
 first-uneven-requires : tie.Need-first-uneven-requires Inv-loop μ-loop
 first-uneven-requires c κs = (c .before .before .before .before .before .before .before .before .before .before .pre .0, omega arith, omega (arith, c .before .part .ensures), c .before .before .before .before .balance .ensures .1)
 
-enum-known-p : tie.Need-enum-known-p Inv-loop μ-loop
-enum-known-p c = search needs
-
 same-length : tie.Need-same-length Inv-loop μ-loop
 same-length c = c .before .before .before .before .before .before .before .before .balance .ensures .0 ∙ c .before .before .before .before .before .before .before .before .before .before .before .loop .inv .1
 
 returns : tie.Need-returns Inv-loop μ-loop
 returns c =
+    let a = c .before .before .before .before .before .before .before .before .before .before .before .before .before .before .args in
     let l = c .before .before .before .before .before .before .before .before .before .before .before .loop in
     let e = c .before .before .before .before .before .part .ensures in
-    (c .before .before .before .before .before .before .before .before .balance .ensures .0 ∙ l .inv .1, sym (part-broken (uneven (c .before .before .before .before .before .before .before .before .before .before .before .before .before .before .args .links .now)) (l .from) (l .from + c .before .before .before .before .before .part .result) (c .before .before .before .before .before .before .before .before .before .before .before .before .before .before .args .places) (omega arith) (omega (arith, e, c .before .before .before .before .before .before .before .before .before .before .loop-test .taken)) _ _ (c .before .before .before .first-uneven .ensures) (c .before .p .given .1)) ∙ l .inv .2)
-
-enum-told : tie.Need-enum-told Inv-loop μ-loop
-enum-told c = search needs
+    (c .before .before .before .before .before .before .before .before .balance .ensures .0 ∙ l .inv .1, sym (part-broken (uneven (a .links .now)) (l .from) (l .from + c .before .before .before .before .before .part .result) (a .places) (omega arith) (omega (arith, e, c .before .before .before .before .before .before .before .before .before .before .loop-test .taken)) _ _ (c .before .before .before .first-uneven .ensures) (c .before .p .given .1)) ∙ l .inv .2)
 
 loop-less : tie.Need-loop-less Inv-loop μ-loop
 loop-less c =
@@ -58,15 +52,18 @@ loop-less c =
 
 loop-again : tie.Need-loop-again Inv-loop μ-loop
 loop-again c =
+    let a = c .before .before .before .before .before .before .before .before .before .before .before .before .before .args in
     let l = c .before .before .before .before .before .before .before .before .before .before .loop in
     let e = c .before .before .before .before .part .ensures in
-    (omega (arith, e, c .before .before .before .before .before .before .before .before .before .loop-test .taken), c .before .before .before .before .before .before .before .balance .ensures .0 ∙ l .inv .1, sym (part-clear (uneven (c .before .before .before .before .before .before .before .before .before .before .before .before .before .args .links .now)) (l .from) (l .from + c .before .before .before .before .part .result) (c .before .before .before .before .before .before .before .before .before .before .before .before .before .args .places) (omega arith) (omega (arith, e, c .before .before .before .before .before .before .before .before .before .loop-test .taken)) _ (c .before .before .first-uneven .ensures) (c .enum-told .given .1)) ∙ l .inv .2)
+    (omega (arith, e, c .before .before .before .before .before .before .before .before .before .loop-test .taken), c .before .before .before .before .before .before .before .balance .ensures .0 ∙ l .inv .1, sym (part-clear (uneven (a .links .now)) (l .from) (l .from + c .before .before .before .before .part .result) (a .places) (omega arith) (omega (arith, e, c .before .before .before .before .before .before .before .before .before .loop-test .taken)) _ (c .before .before .first-uneven .ensures) (c .enum-told .given .1)) ∙ l .inv .2)
 
 same-length-2 : tie.Need-same-length-2 Inv-loop μ-loop
 same-length-2 c = c .before .loop .inv .1
 
 returns-2 : tie.Need-returns-2 Inv-loop μ-loop
-returns-2 c = (c .before .loop .inv .1, sym (end (uneven (c .before .before .before .before .args .links .now)) (c .before .loop .from) (c .before .before .before .before .args .places) (c .loop-test .left)) ∙ c .before .loop .inv .2)
+returns-2 c =
+    let a = c .before .before .before .before .args in
+    (c .before .loop .inv .1, sym (end (uneven (a .links .now)) (c .before .loop .from) (a .places) (c .loop-test .left)) ∙ c .before .loop .inv .2)
 
 pub first-uncovered-spec : {M : Type 1} → statement M
 first-uncovered-spec =
@@ -77,13 +74,13 @@ first-uncovered-spec =
     loop-holds
     balance-requires
     sub-part
-    part-requires
+    (λ c κs. search needs)
     add-end
     first-uneven-requires
-    enum-known-p
+    (λ c. search needs)
     same-length
     returns
-    enum-told
+    (λ c. search needs)
     loop-less
     loop-again
     same-length-2

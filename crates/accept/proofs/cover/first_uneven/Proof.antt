@@ -18,23 +18,8 @@ Inv-loop links work from end nodes p₀ p = (from ≤ p) × (p ≤ end) × (lowe
 abbrev μ-loop : tie.MeasureT-loop
 μ-loop links work from end nodes p₀ p = end - p
 
-cast-nodes : tie.Need-cast-nodes Inv-loop μ-loop
-cast-nodes c = search needs
-
 loop-holds : tie.Need-loop-holds Inv-loop μ-loop
 loop-holds c = (search needs, search needs, refl)
-
-sub-if1 : tie.Need-sub-if1 Inv-loop μ-loop
-sub-if1 c = search needs
-
-mul-if1 : tie.Need-mul-if1 Inv-loop μ-loop
-mul-if1 c = search needs
-
-shared-slice-read-if1 : tie.Need-shared-slice-read-if1 Inv-loop μ-loop
-shared-slice-read-if1 c = search needs
-
-even-requires : tie.Need-even-requires Inv-loop μ-loop
-even-requires c κs = search needs
 
 returns : tie.Need-returns Inv-loop μ-loop
 returns c =
@@ -43,12 +28,6 @@ returns c =
     let l = c .before .before .before .before .loop in
     sym (stop (uneven (a .links .now)) (l .p) (a .end) (c .before .before .before .loop-test .taken)
     (uneven-yes (a .links .now) (a .work .now) (a .from) (l .p) _ (s .pre .3) (l .inv .0) (omega (arith, l .inv, s .pre, c .before .before .before .loop-test .taken)) (c .before .even .ensures) (c .if1 .taken))) ∙ l .inv .2
-
-add-p : tie.Need-add-p Inv-loop μ-loop
-add-p c = search needs
-
-loop-less : tie.Need-loop-less Inv-loop μ-loop
-loop-less c = search needs
 
 loop-again : tie.Need-loop-again Inv-loop μ-loop
 loop-again c =
@@ -73,14 +52,14 @@ first-uneven-spec =
     (tie.spec
     Inv-loop
     μ-loop
-    cast-nodes
+    (λ c. search needs)
     loop-holds
-    sub-if1
-    mul-if1
-    shared-slice-read-if1
-    even-requires
+    (λ c. search needs)
+    (λ c. search needs)
+    (λ c. search needs)
+    (λ c κs. search needs)
     returns
-    add-p
-    loop-less
+    (λ c. search needs)
+    (λ c. search needs)
     loop-again
     returns-2)

@@ -15,32 +15,17 @@ returns-2 : tie.Need-returns-2
 unfolding single nodeAt linked
 returns-2 c = λ mesh. rw (eq-eqb _ _ (c .before .if1 .left), ne-eqb _ _ (c .if2 .taken))
 
-read-requires : tie.Need-read-requires
-read-requires c κs = search needs
-
-is-empty-requires : tie.Need-is-empty-requires
-is-empty-requires c κs = search needs
-
 returns-3 : tie.Need-returns-3
 unfolding single nodeAt linked
 returns-3 c = λ mesh. rw (eq-eqb _ _ (c .before .before .before .before .if1 .left), eq-eqb _ _ (c .before .before .before .if2 .left), ← c .before .before .read .ensures, ← c .before .is-empty .ensures, not-true (c .before .is-empty .result) (c .if3 .taken))
-
-shared-slice-read-if4 : tie.Need-shared-slice-read-if4
-shared-slice-read-if4 c = search needs
 
 returns-4 : tie.Need-returns-4
 unfolding single nodeAt linked
 returns-4 c = λ mesh. rw (eq-eqb _ _ (c .before .before .before .before .before .before .if1 .left), eq-eqb _ _ (c .before .before .before .before .before .if2 .left), ← c .before .before .before .before .read .ensures, ← c .before .before .before .is-empty .ensures, not-false (c .before .before .before .is-empty .result) (c .before .before .if3 .left), ne-eqb _ _ (c .if4 .taken))
 
-shared-slice-read-if5 : tie.Need-shared-slice-read-if5
-shared-slice-read-if5 c = search needs
-
 returns-5 : tie.Need-returns-5
 unfolding single nodeAt linked
 returns-5 c = λ mesh. rw (eq-eqb _ _ (c .before .before .before .before .before .before .before .before .if1 .left), eq-eqb _ _ (c .before .before .before .before .before .before .before .if2 .left), ← c .before .before .before .before .before .before .read .ensures, ← c .before .before .before .before .before .is-empty .ensures, not-false (c .before .before .before .before .before .is-empty .result) (c .before .before .before .before .if3 .left), eq-eqb _ _ (c .before .before .if4 .left), ne-eqb _ _ (c .if5 .taken))
-
-shared-slice-read-result : tie.Need-shared-slice-read-result
-shared-slice-read-result c = search needs
 
 returns-6 : tie.Need-returns-6
 unfolding single nodeAt linked
@@ -52,12 +37,12 @@ single-spec =
     (tie.spec
     returns
     returns-2
-    read-requires
-    is-empty-requires
+    (λ c κs. search needs)
+    (λ c κs. search needs)
     returns-3
-    shared-slice-read-if4
+    (λ c. search needs)
     returns-4
-    shared-slice-read-if5
+    (λ c. search needs)
     returns-5
-    shared-slice-read-result
+    (λ c. search needs)
     returns-6)

@@ -24,25 +24,10 @@ returns c =
     let l = c .before .before .loop in
     sym (climb-there (c .before .before .before .before .args .work .now) (l .left) (l .at) (c .before .loop-test .taken) (c .if1 .taken)) ∙ l .inv
 
-word-requires : tie.Need-word-requires Inv-loop μ-loop
-word-requires c κs = search needs
-
 returns-2 : tie.Need-returns-2 Inv-loop μ-loop
 returns-2 c =
     let l = c .before .before .before .before .loop in
     sym (climb-none (c .before .before .before .before .before .before .args .work .now) (l .left) (l .at) (c .before .before .before .loop-test .taken) (c .before .before .if1 .left) (sym (c .before .word .ensures) ∙ c .if2 .taken)) ∙ l .inv
-
-cast-at : tie.Need-cast-at Inv-loop μ-loop
-cast-at c = search needs
-
-sub-at : tie.Need-sub-at Inv-loop μ-loop
-sub-at c = search needs
-
-sub-left : tie.Need-sub-left Inv-loop μ-loop
-sub-left c = search needs
-
-loop-less : tie.Need-loop-less Inv-loop μ-loop
-loop-less c = search needs
 
 loop-again : tie.Need-loop-again Inv-loop μ-loop
 loop-again c =
@@ -63,11 +48,11 @@ climbs-spec =
     μ-loop
     loop-holds
     returns
-    word-requires
+    (λ c κs. search needs)
     returns-2
-    cast-at
-    sub-at
-    sub-left
-    loop-less
+    (λ c. search needs)
+    (λ c. search needs)
+    (λ c. search needs)
+    (λ c. search needs)
     loop-again
     returns-3)

@@ -16,10 +16,9 @@ abbrev μ-loop : tie.MeasureT-loop
 μ-loop work nodes j₀ j = nodes - j
 
 loop-holds : tie.Need-loop-holds Inv-loop μ-loop
-loop-holds c = start (orphan (c .before .args .work .now)) (c .before .args .nodes)
-
-orphan-requires : tie.Need-orphan-requires Inv-loop μ-loop
-orphan-requires c κs = search needs
+loop-holds c =
+    let a = c .before .args in
+    start (orphan (a .work .now)) (a .nodes)
 
 returns : tie.Need-returns Inv-loop μ-loop
 returns c =
@@ -52,7 +51,7 @@ first-orphan-spec =
     Inv-loop
     μ-loop
     loop-holds
-    orphan-requires
+    (λ c κs. search needs)
     returns
     add-j
     loop-less

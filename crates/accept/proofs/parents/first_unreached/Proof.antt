@@ -17,10 +17,9 @@ abbrev μ-loop : tie.MeasureT-loop
 μ-loop work nodes j₀ j = nodes - j
 
 loop-holds : tie.Need-loop-holds Inv-loop μ-loop
-loop-holds c = start (adrift (c .before .args .work .now)) (c .before .args .nodes)
-
-climbs-requires : tie.Need-climbs-requires Inv-loop μ-loop
-climbs-requires c κs = search needs
+loop-holds c =
+    let a = c .before .args in
+    start (adrift (a .work .now)) (a .nodes)
 
 returns : tie.Need-returns Inv-loop μ-loop
 unfolding adrift
@@ -55,7 +54,7 @@ first-unreached-spec =
     Inv-loop
     μ-loop
     loop-holds
-    climbs-requires
+    (λ c κs. search needs)
     returns
     add-j
     loop-less

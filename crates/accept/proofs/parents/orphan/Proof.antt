@@ -5,9 +5,6 @@ use borrow.Author.Needs.{needs}
 use Rattle.accept.proofs.parents.orphan.Statement.{statement}
 use Rattle.accept.proofs.parents.orphan.Tie as tie
 
-word-requires : tie.Need-word-requires
-word-requires c κs = search needs
-
 returns : tie.Need-returns
 unfolding orphan
 returns c = rw (← c .before .word .ensures, eq-eqb _ _ (c .if1 .taken))
@@ -21,4 +18,4 @@ unfolding orphan
 returns-3 c = rw (← c .before .before .word .ensures, ne-eqb _ _ (c .before .if1 .left), ne-eqb _ _ (c .if2 .left))
 
 pub orphan-spec : {M : Type 1} → statement M
-orphan-spec = tie.close (tie.spec word-requires returns returns-2 returns-3)
+orphan-spec = tie.close (tie.spec (λ c κs. search needs) returns returns-2 returns-3)
