@@ -224,7 +224,9 @@ fn spoil(r: &mut Random, case: &mut Case) {
         }
         21 => drop(boxes.pop()),
         22 => drop(links.pop()),
-        _ => mesh.push(0.0),
+        23 => mesh.push(0.0),
+        // A fault that there is no place for.
+        _ => {}
     }
 }
 
