@@ -57,14 +57,14 @@ alike s t A M =
     let w : Signed s (nodeCount (s .tree .links)) (leaves t) = subst (λ (n : ℕ). Signed s n (leaves t)) (sym (A .all-nodes)) (signed-tree s t A M) in
     record { leaf-count = leaves t; signed = w; sky-signed = λ rays times told. signed-sky s (nodeCount (s .tree .links)) (leaves t) rays times told w M }
 
--- Rule G7: a tree that is accepted, with any list of one material for each triangle
+-- Rule G8: a tree that is accepted, with any list of one material for each triangle
 pub accepted-signed : Gives accept-call.Post (λ κs x r e. r ≡ Fine → (materials : List ℕ) → length materials ≡ triangleCount (x .0 .now)
     → SignedAlike (lent (x .0 .now) materials (x .1 .0 .now) (x .1 .1 .0 .now) (x .1 .1 .1 .0 .now)))
 accepted-signed κs x r e p f materials M =
     let h = accept-exactly κs x r e p .holds-tree f in
     alike _ (h .tree) (relabelled _ (h .tree) materials (h .accepted)) M
 
--- Rule G7: a tree that was built, handed over as its 2L-1 nodes and n entries, the empty mesh's too, with room for one number a node and a triangle
+-- Rule G8: a tree that was built, handed over as its 2L-1 nodes and n entries, the empty mesh's too, with room for one number a node and a triangle
 pub built-accepted : (mesh : List Float) (index : List ℕ) (boxes : List Float) (links : List ℕ) (nodes leaf-count : ℕ)
     → built mesh index boxes links .answer ≡ servedReply nodes leaf-count
     → Gives accept-call.Post (λ κs x r e. handed mesh [] (built mesh index boxes links) ≡ foreign (x .0 .now) (x .1 .0 .now) (x .1 .1 .0 .now) (x .1 .1 .1 .0 .now)

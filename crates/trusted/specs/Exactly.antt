@@ -1,4 +1,4 @@
--- What is signed of the call that accepts (rule G6): it accepts exactly the lists that hold a tree as rule G2 asks of one, which are those that break no condition. Definitions only.
+-- What is signed of the call that accepts (rule G7): it accepts exactly the lists that hold a tree as rule G2 asks of one, which are those that break no condition. Definitions only.
 use mathlib.Core.Path.{_≡_}
 use mathlib.Core.List.{List}
 use Prim.Native.Nat.{ℕ}
