@@ -38,7 +38,11 @@ pub fn check(calls: &Calls, case: &Case) -> Result<(u32, u64), String> {
             got.1,
             wanted.0,
             wanted.1,
-            if got.2 == wanted.2 { "the same" } else { "another" }
+            if got.2 == wanted.2 {
+                "the same"
+            } else {
+                "another"
+            }
         ));
     }
     Ok((got.0, if got.0 == 19 { got.1[0] } else { 0 }))
@@ -87,7 +91,7 @@ impl Maker<'_> {
         } else {
             let left = self.pairs.pop().expect("a pair for each internal node");
             let k = match leaves.len() {
-                n if level < self.shape.chain => *[1, n - 1].get(self.r.below(2)).unwrap(),
+                n if level < self.shape.chain => self.r.pick(&[1, n - 1]),
                 n if self.shape.chain > 0 => n / 2,
                 n => self.r.whole(1, n - 1),
             };
@@ -177,7 +181,11 @@ fn spoil(r: &mut Random, case: &mut Case) {
         1 => links[i + 1] = r.pick(&[0, 1, 2, 3, m as u32, u32::MAX]),
         2 => {
             let beyond = [0, 1, nodes - 1, nodes, m].map(|x| x as u32);
-            links[i] = if r.one_in(3) { u32::MAX } else { r.pick(&beyond) };
+            links[i] = if r.one_in(3) {
+                u32::MAX
+            } else {
+                r.pick(&beyond)
+            };
         }
         3 => links[i] = r.below(nodes.max(m)) as u32,
         4 => boxes[2 * i + r.below(6)] = odd_number(r),
@@ -222,8 +230,8 @@ fn spoil(r: &mut Random, case: &mut Case) {
                 leaf[1] = leaf[1].wrapping_mul(times as u32);
             }
         }
-        21 => drop(boxes.pop()),
-        22 => drop(links.pop()),
+        21 => boxes.truncate(6 * nodes - 1),
+        22 => links.truncate(3 * nodes - 1),
         23 => mesh.push(0.0),
         // A fault that there is no place for.
         _ => {}
@@ -259,7 +267,15 @@ pub fn case(r: &mut Random) -> Case {
             // About 63 levels.
             let n = r.whole(60, 72);
             let (most, chain) = (1, r.whole(58, 70));
-            valid(r, n, Shape { most, chain, shuffled })
+            valid(
+                r,
+                n,
+                Shape {
+                    most,
+                    chain,
+                    shuffled,
+                },
+            )
         }
         2 => {
             let built = hostile::built(r);
@@ -269,7 +285,15 @@ pub fn case(r: &mut Random) -> Case {
         k => {
             let n = if k == 3 { 0 } else { r.whole(1, 12) };
             let (most, chain) = (r.whole(1, 4), if r.one_in(4) { 9 } else { 0 });
-            valid(r, n, Shape { most, chain, shuffled })
+            valid(
+                r,
+                n,
+                Shape {
+                    most,
+                    chain,
+                    shuffled,
+                },
+            )
         }
     };
     for _ in 0..r.pick(&[0, 1, 1, 1, 2, 3]) {

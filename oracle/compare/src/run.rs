@@ -4,8 +4,8 @@ use crate::calls::Calls;
 use crate::mesh_check::{self, Case, Tally};
 use crate::random::Random;
 use crate::{
-    accept_check, foreign_check, functions, hostile, meshes, node_room, normal_check, rays, reading_check,
-    root_check, show, sky_check, Lists,
+    accept_check, foreign_check, functions, hostile, meshes, node_room, normal_check, rays,
+    reading_check, root_check, show, sky_check, Lists,
 };
 use std::collections::BTreeMap;
 

@@ -73,7 +73,10 @@ fn trees_from_elsewhere_come_to_every_answer() {
     }
     let refusals = [0, 1, 5, 8, 16].map(|number| (number, 0));
     let conditions = [1, 2, 3, 4, 5, 6].map(|condition| (19, condition));
-    assert!(answers.iter().eq(refusals.iter().chain(&conditions)), "{answers:?}");
+    assert!(
+        answers.iter().eq(refusals.iter().chain(&conditions)),
+        "{answers:?}"
+    );
     assert!(accepted > 2_000, "{accepted} of 20,000 accepted");
 }
 

@@ -64,9 +64,9 @@ impl Lent<'_> {
             Self::misplaced,
             Self::not_containing,
         ];
-        (1..).zip(conditions).find_map(|(condition, breaks)| {
-            breaks(self).map(|place| Broken { condition, place })
-        })
+        (1..)
+            .zip(conditions)
+            .find_map(|(condition, breaks)| breaks(self).map(|place| Broken { condition, place }))
     }
 
     fn bounds(&self, i: usize) -> Bounds {
@@ -145,10 +145,13 @@ impl Lent<'_> {
     /// (v)
     fn misplaced(&self) -> Option<usize> {
         let mut seen = vec![false; self.n];
-        let wrong = self.index.iter().position(|&k| match seen.get_mut(k as usize) {
-            None => true,
-            Some(seen) => std::mem::replace(seen, true),
-        });
+        let wrong = self
+            .index
+            .iter()
+            .position(|&k| match seen.get_mut(k as usize) {
+                None => true,
+                Some(seen) => std::mem::replace(seen, true),
+            });
         wrong.or_else(|| (self.index.len() < self.n).then_some(self.index.len()))
     }
 
