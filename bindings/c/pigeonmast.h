@@ -75,7 +75,9 @@ enum pigeonmast_refusal {
     PIGEONMAST_TOO_MANY_BOX_TESTS = 12,    /* more than there are nodes; at: the next node */
     PIGEONMAST_ANSWER_ROOM = 13,           /* times or told too short */
     PIGEONMAST_RAY_NUMBERS = 14,           /* rays not in sixes */
+    PIGEONMAST_ROOM_TOO_SHORT = 16,        /* lent room */
     PIGEONMAST_MATERIAL_LIST = 18,         /* materials not one for each triangle */
+    PIGEONMAST_CONDITION_BROKEN = 19,      /* told: the condition, and where it breaks */
     PIGEONMAST_WEIGHTS_DIFFER = 27,        /* not one weight a ray */
     PIGEONMAST_TOO_MANY_RAYS = 28          /* more than 1,048,576 to be weighed */
 };
@@ -184,6 +186,34 @@ uint32_t pigeonmast_watts(const double *triangles, size_t triangles_len,
  * open together, in lowest terms; 0, 1 where both are 0; 0, 0 just where the
  * lower number would pass 64 bits. Answers 0, on any two numbers. */
 uint32_t pigeonmast_share(uint64_t shaded, uint64_t open, uint64_t share[2]);
+
+/* Judges a tree that was built elsewhere: accepted, it promises what a built one
+ * does. index may have any length; work needs one number for each node and each
+ * triangle.
+ * Answers 0 with told = 0, 0: it is accepted. Refused in this order: 1, 2, 8, 16
+ * (work), 5 (the lowest triangle), each with told = at, 0; then 19 with told =
+ * the number of the first condition broken and the lowest place where it breaks:
+ *
+ *   1  a node is bad, or, where there are triangles, its box is not finite or it
+ *      is a leaf without any (of no triangles: anything but one leaf, first 0,
+ *      count 0, empty box, over an empty index, at node 0); the node
+ *   2  a node but 0 is not the child of exactly one internal node, or node 0 is
+ *      a child; the node
+ *   3  a node is not reached from 0 in 63 steps; the node
+ *   4  an entry of index is in the range of no leaf, or of several; the entry
+ *   5  an entry of index is n or more, or stands there before; the entry, or
+ *      index_len if only entries are lacking
+ *   6  a box does not contain its children's boxes, or its triangles' vertices;
+ *      the node
+ *
+ * work is zero throughout, spare room too, after 0 and 19, and unchanged after
+ * any other answer. */
+uint32_t pigeonmast_accept(const double *triangles, size_t triangles_len,
+                           const uint32_t *index, size_t index_len,
+                           const double *boxes, size_t boxes_len,
+                           const uint32_t *links, size_t links_len,
+                           uint32_t *work, size_t work_len,
+                           uint64_t told[2]);
 
 #ifdef __cplusplus
 }

@@ -126,5 +126,20 @@ int main(void)
     HOLDS(share, 1, 2);
     ANSWERS(pigeonmast_share(UINT64_MAX, 1, share), 0);
     HOLDS(share, 0, 0);
+
+    /* A8: the row is accepted; a leaf that ends too early, and room that is short. */
+#define LISTS mesh, 60, index, 5, boxes, 18, links, 9
+    uint32_t work[9] = {7, 7, 7, 7, 7, 7, 7, 7, 7};
+    ANSWERS(pigeonmast_build(mesh, 60, index, 6, boxes, 54, links, 27, told), 0);
+    ANSWERS(pigeonmast_accept(LISTS, work, 7, told), PIGEONMAST_ROOM_TOO_SHORT);
+    HOLDS(told, 0, 0);
+    HOLDS(work, 7, 7, 7, 7, 7, 7, 7, 7, 7);
+    ANSWERS(pigeonmast_accept(LISTS, work, 9, told), 0);
+    HOLDS(told, 0, 0);
+    HOLDS(work, 0, 0, 0, 0, 0, 0, 0, 0, 0);
+    links[4] = 1, work[8] = 7;
+    ANSWERS(pigeonmast_accept(LISTS, work, 9, told), PIGEONMAST_CONDITION_BROKEN);
+    HOLDS(told, 4, 1);
+    HOLDS(work, 0, 0, 0, 0, 0, 0, 0, 0, 0);
     return differ;
 }

@@ -3,7 +3,7 @@ use std::thread;
 
 use crate::{raw, Aabb, HitRecord, Ray, Refusal, Report, Triangle, Watts};
 
-/// A tree with the triangles it was built of. It is plain data: clone it, send it
+/// A tree with its triangles, built here or accepted. It is plain data: clone it, send it
 /// to another thread, walk it from many.
 #[derive(Clone, Debug, PartialEq)]
 pub struct Bvh {
@@ -166,22 +166,49 @@ impl Bvh {
         Ok(bvh)
     }
 
-    /// A tree from elsewhere, as lent lists. Nothing is looked at here: a walk
-    /// refuses what it meets. Materials are 0, as of [`build_bvh`].
-    #[must_use]
+    /// A tree that was built elsewhere, as lent lists, if it is accepted: then it
+    /// promises what a built one does. Materials are 0, as of [`build_bvh`].
+    ///
+    /// # Errors
+    ///
+    /// [`Refusal::TriangleNumbers`], [`Refusal::TooManyTriangles`],
+    /// [`Refusal::NodeLists`], [`Refusal::TriangleNotAdmitted`] (the lowest number)
+    /// or [`Refusal::ConditionBroken`], which says which of six conditions is
+    /// broken and where: the first of these that applies.
+    ///
+    /// ```
+    /// use pigeonmast::{Bvh, Condition, Refusal};
+    /// let t = [0.0, 0.0, 0.0, 1.0, 0.0, 0.0, 0.0, 1.0, 0.0, 0.0, 0.0, 1.0];
+    /// let small = vec![0.0, 0.0, 0.0, 1.0, 0.5, 0.0];
+    /// let refusal = Bvh::from_lists(t.to_vec(), vec![0], small, vec![0, 1, 1]).unwrap_err();
+    /// let (condition, place) = (Condition::Boxes, 0);
+    /// assert_eq!(refusal, Refusal::ConditionBroken { condition, place });
+    /// assert_eq!(
+    ///     refusal.to_string(),
+    ///     "refused 19: condition (vi) breaks at node 0: its box does not contain its children's boxes, or its triangles' vertices"
+    /// );
+    /// ```
     pub fn from_lists(
         triangles: Vec<f64>,
         index: Vec<u32>,
         boxes: Vec<f64>,
         links: Vec<u32>,
-    ) -> Self {
-        Self {
-            materials: vec![0; triangles.len() / 12],
+    ) -> Result<Self, Refusal> {
+        // Lists that are too long are refused before the room is looked at.
+        let n = (triangles.len() / 12).min(MOST_TRIANGLES);
+        let nodes = (links.len() / 3).min(2 * MOST_TRIANGLES);
+        let (mut work, mut told) = (vec![0; nodes + n], [0; 2]);
+        let number = raw::accept(&triangles, &index, &boxes, &links, &mut work, &mut told);
+        if number != 0 {
+            return Err(Refusal::of_accept(number, told));
+        }
+        Ok(Self {
+            materials: vec![0; n],
             triangles,
             index,
             boxes,
             links,
-        }
+        })
     }
 
     /// The same tree, with a material for each triangle, which every hit tells.
@@ -213,9 +240,8 @@ impl Bvh {
     ///
     /// # Errors
     ///
-    /// [`Refusal::RayNotAdmitted`]. A tree of [`Bvh::from_lists`] has besides, in
-    /// the order of docs/RULES.md, whatever its lists are refused for: 1, 2, 8
-    /// and, where the walk comes to it, 12, 9, 10, 5 and 11.
+    /// [`Refusal::RayNotAdmitted`], and no other: a tree that was built or
+    /// accepted is walked by every admitted ray.
     pub fn intersect(&self, ray: &Ray) -> Result<Walk, Refusal> {
         let (mut numbers, mut told) = ([0.0; raw::HIT_NUMBERS], [0; raw::WALK_TOLD]);
         let number = raw::walk(
@@ -250,8 +276,8 @@ impl Bvh {
     ///
     /// # Errors
     ///
-    /// Of the whole call only for triangles of [`Bvh::from_lists`]:
-    /// [`Refusal::TriangleNumbers`] or [`Refusal::TooManyTriangles`].
+    /// Of the whole call none that a tree of this crate can have: the outer result
+    /// is for what a later library might refuse.
     ///
     /// ```
     /// use pigeonmast::{Bvh, Ray, Refusal};

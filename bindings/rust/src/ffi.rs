@@ -98,4 +98,18 @@ extern "C" {
     ) -> u32;
 
     pub fn pigeonmast_share(shaded: u64, open: u64, share: *mut [u64; 2]) -> u32;
+
+    pub fn pigeonmast_accept(
+        triangles: *const f64,
+        triangles_len: usize,
+        index: *const u32,
+        index_len: usize,
+        boxes: *const f64,
+        boxes_len: usize,
+        links: *const u32,
+        links_len: usize,
+        work: *mut u32,
+        work_len: usize,
+        told: *mut [u64; 2],
+    ) -> u32;
 }

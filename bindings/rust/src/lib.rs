@@ -36,6 +36,8 @@
 //!
 //! [`Triangle::new`] works a normal out, [`refill_normals`] those of a whole mesh.
 //!
+//! [`Bvh::from_lists`] takes a tree that was built elsewhere, if it is accepted.
+//!
 //! [`raw`] has the calls of the library as they stand, over lent slices, and says
 //! what is asked of the floating-point state. A Rust program starts in it.
 //!
@@ -46,6 +48,7 @@
 
 mod aabb;
 mod bvh;
+mod condition;
 mod ffi;
 pub mod raw;
 mod refusal;
@@ -55,6 +58,7 @@ mod watts;
 
 pub use aabb::{ray_aabb_slab_test, Aabb};
 pub use bvh::{build_bvh, Bvh, BvhNode, Place, PlaceHit, Walk};
+pub use condition::Condition;
 pub use refusal::Refusal;
 pub use triangle::{refill_normals, HitRecord, Triangle};
 pub use vector::{Ray, Vec3};

@@ -317,3 +317,44 @@ pub fn share(shaded: u64, open: u64, share: &mut [u64; 2]) -> u32 {
     // SAFETY: an array's pointer; see the module's head.
     unsafe { ffi::pigeonmast_share(shaded, open, share) }
 }
+
+/// Judges a tree that was built elsewhere.
+///
+/// Answers 0 with `told` = 0, 0 where it is accepted; 19 with `told` = the number
+/// of the first condition broken, 1 to 6 ([`crate::Condition`]), and the lowest
+/// place where it breaks; else the refusal's number with `told` = at, 0. `work`
+/// needs one number for each node and each triangle; it is zero throughout after
+/// 0 and 19, and unchanged after any other answer.
+///
+/// ```
+/// // No triangles: one leaf with the empty box.
+/// let boxes = [1.0, 1.0, 1.0, -1.0, -1.0, -1.0].map(|x| x * f64::INFINITY);
+/// let (mut work, mut told) = ([7; 2], [7; 2]);
+/// let answer = pigeonmast::raw::accept(&[], &[], &boxes, &[0, 0, 1], &mut work, &mut told);
+/// assert_eq!((answer, told, work), (0, [0, 0], [0, 0]));
+/// ```
+pub fn accept(
+    triangles: &[f64],
+    index: &[u32],
+    boxes: &[f64],
+    links: &[u32],
+    work: &mut [u32],
+    told: &mut [u64; 2],
+) -> u32 {
+    // SAFETY: as in `build`.
+    unsafe {
+        ffi::pigeonmast_accept(
+            triangles.as_ptr(),
+            triangles.len(),
+            index.as_ptr(),
+            index.len(),
+            boxes.as_ptr(),
+            boxes.len(),
+            links.as_ptr(),
+            links.len(),
+            work.as_mut_ptr(),
+            work.len(),
+            told,
+        )
+    }
+}

@@ -1,7 +1,7 @@
 use std::error::Error;
 use std::fmt;
 
-use crate::raw;
+use crate::{raw, Condition};
 
 /// Why a call was refused, or one of its rays: the table of refusals in
 /// docs/RULES.md, by name. More names may come with later calls.
@@ -61,8 +61,18 @@ pub enum Refusal {
     AnswerRoom,
     /// 14: the rays' numbers do not come in sixes.
     RayNumbers,
+    /// 16: lent room is too short.
+    RoomTooShort,
     /// 18: the materials are not one for each triangle.
     MaterialList,
+    /// 19: a tree that was built elsewhere is not accepted.
+    ConditionBroken {
+        /// The first condition that is broken.
+        condition: Condition,
+        /// The lowest place where it breaks: an entry of the index list for
+        /// [`Condition::Cover`] and [`Condition::Permutation`], else a node.
+        place: u64,
+    },
     /// 27: there are more weights than rays, or fewer.
     WeightsDiffer,
     /// 28: there are more than 1,048,576 rays to be weighed.
@@ -93,10 +103,22 @@ impl Refusal {
             12 => Self::TooManyBoxTests { node: at },
             13 => Self::AnswerRoom,
             14 => Self::RayNumbers,
+            16 => Self::RoomTooShort,
             18 => Self::MaterialList,
             27 => Self::WeightsDiffer,
             28 => Self::TooManyRays,
             _ => Self::Unknown { number, at },
+        }
+    }
+
+    /// Of a call that accepts: with 19 it tells the condition and the place.
+    pub(crate) fn of_accept(number: u32, told: [u64; 2]) -> Self {
+        match (number, Condition::new(told[0])) {
+            (19, Some(condition)) => Self::ConditionBroken {
+                condition,
+                place: told[1],
+            },
+            _ => Self::new(number, told[0]),
         }
     }
 
@@ -118,7 +140,9 @@ impl Refusal {
             Self::TooManyBoxTests { .. } => 12,
             Self::AnswerRoom => 13,
             Self::RayNumbers => 14,
+            Self::RoomTooShort => 16,
             Self::MaterialList => 18,
+            Self::ConditionBroken { .. } => 19,
             Self::WeightsDiffer => 27,
             Self::TooManyRays => 28,
             Self::Unknown { number, .. } => *number,
@@ -137,6 +161,7 @@ impl Refusal {
             | Self::BadEntry { place: at }
             | Self::TooManyPending { node: at }
             | Self::TooManyBoxTests { node: at }
+            | Self::ConditionBroken { place: at, .. }
             | Self::Unknown { at, .. } => *at,
             _ => 0,
         }
@@ -198,9 +223,13 @@ impl fmt::Display for Refusal {
             Self::RayNumbers => {
                 f.write_str("the rays' numbers do not come in sixes; give origin and direction of each")
             }
+            Self::RoomTooShort => {
+                f.write_str("the lent room is too short; lend one number for each node and each triangle")
+            }
             Self::MaterialList => {
                 f.write_str("the materials are not as many as the triangles; give one for each")
             }
+            Self::ConditionBroken { condition, place } => condition.broken_at(*place, f),
             Self::WeightsDiffer => {
                 f.write_str("weights and rays differ in number; give one weight for each ray")
             }

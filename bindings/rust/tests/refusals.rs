@@ -67,10 +67,13 @@ fn of_a_walk() {
 #[test]
 fn of_foreign_lists() {
     let walk = |index: &[u32], boxes: &[f64], links: &[u32]| {
-        let bvh = Bvh::from_lists(T.to_vec(), index.to_vec(), boxes.to_vec(), links.to_vec());
-        bvh.intersect(&down())
-            .map(|w| w.hit.is_some())
-            .map_err(told)
+        let (mut numbers, mut told) = ([0.0; raw::HIT_NUMBERS], [0; raw::WALK_TOLD]);
+        let ray = down().numbers();
+        match raw::walk(&T, &[0], index, boxes, links, &ray, &mut numbers, &mut told) {
+            0 => Ok(false),
+            raw::HIT => Ok(true),
+            number => Err((number, told[0])),
+        }
     };
     assert_eq!(walk(&[0], &UNIT, &[0, 1, 1]), Ok(true));
     assert_eq!(walk(&[], &[], &[]), Err((8, 0)));
@@ -184,14 +187,6 @@ fn of_a_ray_among_others() {
         assert_eq!(bvh.sky_parallel(&[], threads), Ok(vec![]));
     }
     assert_eq!(bvh.sky(&[]), Ok(vec![]));
-    let ragged = Bvh::from_lists(T[..11].to_vec(), vec![0], UNIT.to_vec(), vec![0, 1, 1]);
-    assert_eq!(told_of(ragged.sky(&[])), (1, 0));
-    let two = NonZeroUsize::new(2).unwrap();
-    assert_eq!(told_of(ragged.sky_parallel(&lent, two)), (1, 0));
-}
-
-fn told_of<T: std::fmt::Debug>(answer: Result<T, Refusal>) -> (u32, u64) {
-    told(answer.unwrap_err())
 }
 
 #[test]

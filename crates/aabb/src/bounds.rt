@@ -2,7 +2,7 @@
 use crate::vector;
 use crate::vector::Vec3;
 ghost use mathlib.Core.Path.{_≡_};
-ghost use Rattle.aabb.specs.Bounds.{emptyBox, ofThree, grown, union, widened, joined, center, extent, area, bounded, isEmpty, usable, boxAt};
+ghost use Rattle.aabb.specs.Bounds.{emptyBox, ofThree, grown, union, widened, joined, center, extent, area, bounded, isEmpty, usable, contains, holds, boxAt};
 
 pub struct Aabb {
     pub min: Vec3,
@@ -143,6 +143,26 @@ impl Aabb {
             return true;
         }
         self.is_empty()
+    }
+
+    // Whether it numerically contains the other box (rule B7).
+    pub fn contains(self, other: Aabb) -> bool
+        ensures { λ r. ⌜ r ≡ contains self other ⌝ }
+    {
+        if self.min.at_most(other.min) {
+            return other.max.at_most(self.max);
+        }
+        false
+    }
+
+    // Whether it numerically holds the point (rule B7).
+    pub fn holds(self, point: Vec3) -> bool
+        ensures { λ r. ⌜ r ≡ holds self point ⌝ }
+    {
+        if self.min.at_most(point) {
+            return point.at_most(self.max);
+        }
+        false
     }
 
     // Box i of a lent slice, six numbers each: min x, y, z, max x, y, z; a NaN for each place beyond its end. One test does for a box that is all there.

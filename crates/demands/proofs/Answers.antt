@@ -10,6 +10,9 @@ use Rattle.builder.specs.Reply.{Reply, reply}
 use Rattle.sky.specs.declared.Filled.{Filled}
 use Rattle.sky.specs.declared.Filled.the-variants.{Places, Refused as Unfilled}
 use Rattle.sky.specs.Sky.{skyRefusal}
+use Rattle.accept.specs.declared.Verdict.{Verdict}
+use Rattle.accept.specs.declared.Verdict.the-variants.{Accepted, Refused as Unaccepted}
+use Rattle.accept.specs.Accept.{Ruling, ruling}
 
 pub refill-told : (a b : Refill) → refillRefusal a ≡ refillRefusal b → a ≡ b
 unfolding refillRefusal
@@ -31,3 +34,10 @@ build-told (Tree n l) (Tree m k) e = cc (ap (λ (r : Reply). r .nodes) e, ap (λ
 build-told (Refused k i) (Refused l j) e = cc (ap (λ (r : Reply). r .refusal) e)
 build-told (Tree n l) (Refused k i) e = apart k i (ap (λ (r : Reply). r .refusal) e)
 build-told (Refused k i) (Tree n l) e = apart k i (ap (λ (r : Reply). r .refusal) (sym e))
+
+pub accept-told : (a b : Verdict) → ruling a ≡ ruling b → a ≡ b
+unfolding ruling
+accept-told Accepted Accepted e = refl
+accept-told (Unaccepted n k i) (Unaccepted m l j) e = cc (ap (λ (r : Ruling). r .refusal) e, ap (λ (r : Ruling). r .condition) e)
+accept-told Accepted (Unaccepted m l j) e = apart m j (ap (λ (r : Ruling). r .refusal) e)
+accept-told (Unaccepted n k i) Accepted e = apart n i (ap (λ (r : Ruling). r .refusal) (sym e))

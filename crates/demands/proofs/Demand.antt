@@ -1,5 +1,5 @@
--- Demand 3 holds of every tree that a walk can take, and so of every tree that is built. Assumes nothing.
-use mathlib.Core.Path.{_≡_, refl, sym, ap}
+-- Demand 3 holds of every tree that a walk can take, and so of every tree that is accepted and of every tree that is built. Assumes nothing.
+use mathlib.Core.Path.{_≡_, refl, sym, ap, subst}
 use Prim.Native.Nat.{ℕ, _*_}
 use native.Mathlib.Omega.{arith}
 use lib.Dec.{T}
@@ -15,12 +15,13 @@ use Rattle.tree.specs.Lent.{Lent, Labelled, lent}
 use Rattle.lent.specs.Ladder.{triangleCount}
 use Rattle.walk.specs.Answer.{Told}
 use Rattle.walk.specs.Walk.{over}
-use Rattle.tree.specs.Tree.{Tree}
+use Rattle.tree.specs.Tree.{Tree, size, leaves}
 use Rattle.tree.proofs.Counts.{odd-size}
-use Rattle.tree.specs.Accepted.{Walkable}
+use Rattle.tree.specs.Accepted.{Walkable, Accepted}
 use Rattle.demands.proofs.Walking.{short, walked, few-tests}
 use Rattle.demands.proofs.NearestHit.{walk-nearest, walk-clear}
 use Rattle.demands.proofs.SameHit.{same-leaves-hit, reordered-hit}
+use Rattle.trusted.specs.Exactly.{Trusted}
 use Rattle.demands.specs.Handed.{handedAs, handed}
 use Rattle.demands.specs.Demand.{Demand3, Signed}
 
@@ -42,6 +43,23 @@ module _ (s : Lent) (t : Tree) (r : Ray) (A : Walkable s t) (M : Labelled (s .me
         no-hit = walk-clear s t r A M R;
       }
 
+-- ---- a tree that is accepted, wherever it was built
+module _ (s : Lent) (t : Tree) (A : Accepted s t) (M : Labelled (s .mesh)) where
+  pub signed-tree : Signed s (size t) (leaves t)
+  signed-tree =
+      let W = A .walkable in
+      record {
+        tree = t;
+        accepted = A;
+        nodes-are = A .all-nodes;
+        size-is = refl;
+        leaves-are = refl;
+        odd = odd-size t;
+        answer = λ r R. demand-3 s t r W M R;
+        settled = λ r R s′ t′ m C L. same-leaves-hit s s′ t t′ r m W C M R L;
+        any-order = λ r R order O. reordered-hit s order t r W M O R;
+      }
+
 -- ---- a built tree
 module _ (mesh : List Float) (materials index : List ℕ) (boxes : List Float) (links : List ℕ) (nodes leaf-count : ℕ) where
   abbrev left : Outcome
@@ -58,19 +76,14 @@ module _ (mesh : List Float) (materials index : List ℕ) (boxes : List Float) (
   signed e n =
       let w = success mesh index boxes links nodes leaf-count left e refl in
       let t = w .grown .tree in
-      let A = accepted-lists mesh index boxes links nodes leaf-count left w materials in
-      let W = A .walkable in
-      record {
-        tree = t;
-        accepted = A;
-        nodes-are = omega (arith, A .all-nodes, w .nodes-are);
-        size-is = sym (w .nodes-are);
-        leaves-are = sym (w .leaves-are);
-        odd = omega (arith, odd-size t, w .nodes-are, w .leaves-are);
-        answer = λ r R. demand-3 given t r W n R;
-        settled = λ r R s′ t′ m C L. same-leaves-hit given s′ t t′ r m W C n R L;
-        any-order = λ r R order O. reordered-hit given order t r W n O R;
-      }
+      subst (λ (k : ℕ). Signed given k leaf-count) (sym (w .nodes-are))
+      (subst (λ (l : ℕ). Signed given (size t) l) (sym (w .leaves-are)) (signed-tree given t (accepted-lists mesh index boxes links nodes leaf-count left w materials) n))
+
+  -- Rule G2, whatever the materials
+  pub built-tree : left .answer ≡ servedReply nodes leaf-count → Trusted (handed mesh materials left)
+  built-tree e =
+      let w = success mesh index boxes links nodes leaf-count left e refl in
+      rw (handed-is e) (record { tree = w .grown .tree; accepted = accepted-lists mesh index boxes links nodes leaf-count left w materials })
 
   pub labelled : left .answer ≡ servedReply nodes leaf-count → length materials ≡ triangleCount mesh → Labelled (handed mesh materials left .mesh)
   labelled e n = rw (handed-is e) n

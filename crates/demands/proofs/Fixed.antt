@@ -16,10 +16,12 @@ use Rattle.walk.specs.declared.Answer.{Answer}
 use Rattle.walk.specs.declared.Answer.the-variants.{Struck, Missed, Refused}
 use Rattle.walk.specs.Answer.{Told, told}
 use Rattle.sky.specs.declared.Filled.{Filled}
+use Rattle.accept.specs.declared.Verdict.{Verdict}
+use Rattle.accept.specs.Accept.{ruling, Outcome as Judging, outcome as judging}
 use Rattle.sky.specs.Sky.{skyRefusal, Filling, filling}
 use Rattle.watts.specs.declared.Counted.{Counted}
 use Rattle.watts.specs.Watts.{Outcome as Weighing}
-use Rattle.demands.proofs.Answers.{refill-told, build-told, sky-told}
+use Rattle.demands.proofs.Answers.{refill-told, build-told, sky-told, accept-told}
 use Rattle.float.proofs.infinity.Reads as float-infinity
 use Rattle.float.proofs.magnitude.Reads as float-magnitude
 use Rattle.float.proofs.lesser.Reads as float-lesser
@@ -64,6 +66,8 @@ use Rattle.aabb.proofs.bounds.Aabb.surface_area.Reads as aabb-surface-area
 use Rattle.aabb.proofs.bounds.Aabb.bounded.Reads as aabb-bounded
 use Rattle.aabb.proofs.bounds.Aabb.is_empty.Reads as aabb-is-empty
 use Rattle.aabb.proofs.bounds.Aabb.usable.Reads as aabb-usable
+use Rattle.aabb.proofs.bounds.Aabb.contains.Reads as aabb-contains
+use Rattle.aabb.proofs.bounds.Aabb.holds.Reads as aabb-holds
 use Rattle.aabb.proofs.bounds.Aabb.read.Reads as aabb-read
 use Rattle.aabb.proofs.bounds.Aabb.intersect_ray.Reads as aabb-intersect-ray
 use Rattle.aabb.proofs.slab.Sight.of.Reads as sight-of
@@ -98,14 +102,15 @@ use Rattle.sky.proofs.judge.Reads as sky-judge
 use Rattle.sky.proofs.sky.Reads as sky-sky
 use Rattle.watts.proofs.share.Reads as watts-share
 use Rattle.watts.proofs.watts.Reads as watts-watts
+use Rattle.accept.proofs.accept.Reads as accept-accept
 
 -- the calls of `float`
 pub float-fixed : Fixes float-infinity.Post × Fixes float-magnitude.Post × Fixes float-lesser.Post × Fixes float-greater.Post × Fixes float-lower.Post × Fixes float-higher.Post × Fixes float-minus-zero.Post × Fixes float-less-number.Post × Fixes float-total-less.Post × Fixes float-bits.Post × Fixes float-from-bits.Post × Fixes float-root.Post
 float-fixed = (fixed, fixed, fixed, fixed, fixed, fixed, fixed, fixed, fixed, fixed, fixed, fixed)
 
 -- the calls of `aabb`
-pub aabb-fixed : Fixes vec3-plus.Post × Fixes vec3-minus.Post × Fixes vec3-negated.Post × Fixes vec3-scaled.Post × Fixes vec3-divided.Post × Fixes vec3-dot.Post × Fixes vec3-cross.Post × Fixes vec3-least.Post × Fixes vec3-greatest.Post × Fixes vec3-lowest.Post × Fixes vec3-highest.Post × Fixes vec3-along.Post × Fixes vec3-within.Post × Fixes vec3-at-most.Post × Fixes vec3-all-equal.Post × Fixes vec3-read.Post × Fixes aabb-place.Post × Fixes ray-read.Post × Fixes ray-at.Post × Fixes ray-admitted.Post × Fixes aabb-empty.Post × Fixes aabb-from-points.Post × Fixes aabb-grow.Post × Fixes aabb-union.Post × Fixes aabb-widened.Post × Fixes aabb-joined.Post × Fixes aabb-center.Post × Fixes aabb-extent.Post × Fixes aabb-surface-area.Post × Fixes aabb-bounded.Post × Fixes aabb-is-empty.Post × Fixes aabb-usable.Post × Fixes aabb-read.Post × Fixes aabb-intersect-ray.Post × Fixes sight-of.Post × Fixes aim-of.Post × Fixes aim-through.Post
-aabb-fixed = (fixed, fixed, fixed, fixed, fixed, fixed, fixed, fixed, fixed, fixed, fixed, fixed, fixed, fixed, fixed, fixed, fixed, fixed, fixed, fixed, fixed, fixed, fixed, fixed, fixed, fixed, fixed, fixed, fixed, fixed, fixed, fixed, fixed, fixed, fixed, fixed, fixed)
+pub aabb-fixed : Fixes vec3-plus.Post × Fixes vec3-minus.Post × Fixes vec3-negated.Post × Fixes vec3-scaled.Post × Fixes vec3-divided.Post × Fixes vec3-dot.Post × Fixes vec3-cross.Post × Fixes vec3-least.Post × Fixes vec3-greatest.Post × Fixes vec3-lowest.Post × Fixes vec3-highest.Post × Fixes vec3-along.Post × Fixes vec3-within.Post × Fixes vec3-at-most.Post × Fixes vec3-all-equal.Post × Fixes vec3-read.Post × Fixes aabb-place.Post × Fixes ray-read.Post × Fixes ray-at.Post × Fixes ray-admitted.Post × Fixes aabb-empty.Post × Fixes aabb-from-points.Post × Fixes aabb-grow.Post × Fixes aabb-union.Post × Fixes aabb-widened.Post × Fixes aabb-joined.Post × Fixes aabb-center.Post × Fixes aabb-extent.Post × Fixes aabb-surface-area.Post × Fixes aabb-bounded.Post × Fixes aabb-is-empty.Post × Fixes aabb-usable.Post × Fixes aabb-contains.Post × Fixes aabb-holds.Post × Fixes aabb-read.Post × Fixes aabb-intersect-ray.Post × Fixes sight-of.Post × Fixes aim-of.Post × Fixes aim-through.Post
+aabb-fixed = (fixed, fixed, fixed, fixed, fixed, fixed, fixed, fixed, fixed, fixed, fixed, fixed, fixed, fixed, fixed, fixed, fixed, fixed, fixed, fixed, fixed, fixed, fixed, fixed, fixed, fixed, fixed, fixed, fixed, fixed, fixed, fixed, fixed, fixed, fixed, fixed, fixed, fixed, fixed)
 
 -- the calls of `triangle`, but for `refill_normals`
 pub triangle-fixed : Fixes triangle-read.Post × Fixes triangle-aabb.Post × Fixes triangle-corners.Post × Fixes triangle-centroid.Post × Fixes triangle-admitted.Post × Fixes triangle-distance.Post × Fixes triangle-hit.Post × Fixes triangle-intersect.Post × Fixes triangle-new.Post × Fixes corners-read.Post × Fixes corners-centroid.Post × Fixes corners-crossing.Post × Fixes corners-distance.Post × Fixes crossing-distance.Post × Fixes triangle-admitted-at.Post × Fixes triangle-first-refused.Post
@@ -161,3 +166,10 @@ share-fixed = fixed
 -- the answer, and the answer room at the end
 pub watts-fixed : FixesAll watts-watts.Post {C = Counted × List Float × List ℕ} (λ κs r e. (r, e .1 .1 .1 .1 .1 .1 .1 .0 .now, e .1 .1 .1 .1 .1 .1 .1 .1 .0 .now))
 watts-fixed κs x r r' e e' p q = ap (λ (o : Weighing). (o .answer, o .times, o .told)) (p ∙ sym q)
+
+-- the answer, and the work room at the end
+accept-same : (a b : Verdict) (x y : List ℕ) → judging (ruling a) x ≡ judging (ruling b) y → _≡_ {A = Verdict × List ℕ} (a, x) (b, y)
+accept-same a b x y e = let t = accept-told a b (ap (λ (o : Judging). o .answer) e) in λ z. (t z, e z .work)
+
+pub accept-fixed : FixesAll accept-accept.Post {C = Verdict × List ℕ} (λ κs r e. (r, e .1 .1 .1 .1 .0 .now))
+accept-fixed κs x r r' e e' p q = accept-same r r' _ _ (p ∙ sym q)

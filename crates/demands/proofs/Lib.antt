@@ -9,3 +9,4 @@ pub mod Demand
 pub mod Sky
 pub mod Materials
 pub mod Surveying
+pub mod Accepting

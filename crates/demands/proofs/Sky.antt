@@ -15,7 +15,7 @@ use Rattle.triangle.specs.declared.Found.the-variants.{At, Nothing}
 use Rattle.builder.specs.Reply.{servedReply}
 use Rattle.builder.specs.Build.{built}
 use Rattle.sky.specs.declared.Place.{Place}
-use Rattle.tree.specs.Lent.{Lent}
+use Rattle.tree.specs.Lent.{Lent, Labelled}
 use Rattle.lent.specs.Ladder.{none, triangleCount}
 use Rattle.walk.specs.Answer.{Told}
 use Rattle.walk.specs.Walk.{walk}
@@ -23,7 +23,7 @@ use Rattle.tree.specs.Tree.{Tree}
 use Rattle.sky.specs.Sky.{rayCount, placed, placeOf, placeAt, sky}
 use Rattle.sky.proofs.Room.{place-k, served}
 use Rattle.demands.specs.Handed.{handed}
-use Rattle.demands.specs.Demand.{Demand3}
+use Rattle.demands.specs.Demand.{Demand3, Signed}
 use Rattle.demands.specs.Sky.{Demand3At, SignedSky}
 use Rattle.demands.proofs.Demand.{labelled, built-walk}
 
@@ -70,21 +70,27 @@ module _ (s : Lent) (t : Tree) (r : Ray) (D : Demand3 s t r) where
   pub demand-3-at : (p : Place) → p ≡ placeOf (walk s r) → Demand3At s t r p
   demand-3-at p e = rw e (by-hit (walk s r .hit) refl)
 
--- ---- a built tree
-module _ (mesh : List Float) (materials index : List ℕ) (boxes : List Float) (links : List ℕ) (nodes leaf-count : ℕ) (rays times : List Float) (told : List ℕ) where
-  abbrev s : Lent
-  s = handed mesh materials (built mesh index boxes links)
-
-  -- Rule G4: an unchanged built tree over its own triangles, a material for each, rays in sixes, answer room that suffices, and each ray that is admitted, whatever the others are.
-  pub built-sky : built mesh index boxes links .answer ≡ servedReply nodes leaf-count → length materials ≡ triangleCount mesh → length rays % 6 ≡ 0 → rayCount rays * 3 ≤ length times → rayCount rays * 5 ≤ length told
+-- ---- a tree that was handed over: a material for each triangle, rays in sixes, answer room that suffices, and each ray that is admitted, whatever the others are
+module _ (s : Lent) (nodes leaf-count : ℕ) (rays times : List Float) (told : List ℕ) where
+  pub signed-sky : Signed s nodes leaf-count → Labelled (s .mesh) → length rays % 6 ≡ 0 → rayCount rays * 3 ≤ length times → rayCount rays * 5 ≤ length told
       → SignedSky s nodes leaf-count rays (sky s rays times told)
-  built-sky e named sixes timed roomy =
-      let w = built-walk mesh materials index boxes links nodes leaf-count e named in
+  signed-sky w named sixes timed roomy =
       let W = w .accepted .walkable in
       let o = sky s rays times told in
-      let is : o .refusal ≡ none = served s rays times told (record { whole = W .whole; few = W .few; labelled = labelled mesh materials index boxes links nodes leaf-count e named; sixes = sixes; timed = timed; roomy = roomy }) in
+      let is : o .refusal ≡ none = served s rays times told (record { whole = W .whole; few = W .few; labelled = named; sixes = sixes; timed = timed; roomy = roomy }) in
       record {
         signed = w;
         served = is;
         each = λ k h R. demand-3-at s (w .tree) (rayAt rays k) (w .answer (rayAt rays k) R) (placeAt (o .times) (o .told) k) (place-k s rays times told is k h);
       }
+
+-- ---- a built tree
+module _ (mesh : List Float) (materials index : List ℕ) (boxes : List Float) (links : List ℕ) (nodes leaf-count : ℕ) (rays times : List Float) (told : List ℕ) where
+  abbrev s : Lent
+  s = handed mesh materials (built mesh index boxes links)
+
+  -- Rule G4: of an unchanged built tree over its own triangles
+  pub built-sky : built mesh index boxes links .answer ≡ servedReply nodes leaf-count → length materials ≡ triangleCount mesh → length rays % 6 ≡ 0 → rayCount rays * 3 ≤ length times → rayCount rays * 5 ≤ length told
+      → SignedSky s nodes leaf-count rays (sky s rays times told)
+  built-sky e named =
+      signed-sky s nodes leaf-count rays times told (built-walk mesh materials index boxes links nodes leaf-count e named) (labelled mesh materials index boxes links nodes leaf-count e named)

@@ -7,3 +7,4 @@ pub mod Demand
 pub mod Materials
 pub mod Sky
 pub mod Survey
+pub mod Accepted

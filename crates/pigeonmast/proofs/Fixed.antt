@@ -5,7 +5,7 @@ use mathlib.Core.List.{List}
 use lib.Ieee.{Float}
 use Rattle.lent.specs.Fixed.{Fixes, FixesAll}
 use Rattle.lent.proofs.Fixed.{fixed}
-use Rattle.pigeonmast.specs.Report.{Build, Walk, Sky, Test, Normals, Watts}
+use Rattle.pigeonmast.specs.Report.{Build, Walk, Sky, Test, Normals, Watts, Accept}
 use Rattle.pigeonmast.proofs.pigeonmast_abi.Reads as abi
 use Rattle.pigeonmast.proofs.pigeonmast_root.Reads as root
 use Rattle.pigeonmast.proofs.pigeonmast_new.Reads as new
@@ -17,6 +17,7 @@ use Rattle.pigeonmast.proofs.pigeonmast_walk.Reads as walk
 use Rattle.pigeonmast.proofs.pigeonmast_sky.Reads as sky
 use Rattle.pigeonmast.proofs.pigeonmast_watts.Reads as watts
 use Rattle.pigeonmast.proofs.pigeonmast_share.Reads as share
+use Rattle.pigeonmast.proofs.pigeonmast_accept.Reads as accept
 
 pub abi-fixed : Fixes abi.Post
 abi-fixed = fixed
@@ -54,3 +55,7 @@ watts-fixed κs x r r' e e' p q = ap (λ (o : Watts). (o .answer, o .times, o .t
 
 pub share-fixed : FixesAll share.Post {C = ℕ × List ℕ} (λ κs r e. (r, e .1 .1 .0 .now))
 share-fixed κs x r r' e e' p q = λ i. ((p .0 ∙ sym (q .0)) i, (p .1 ∙ sym (q .1)) i)
+
+-- the work room and what is told
+pub accept-fixed : FixesAll accept.Post {C = ℕ × List ℕ × List ℕ} (λ κs r e. (r, e .1 .1 .1 .1 .0 .now, e .1 .1 .1 .1 .1 .0 .now))
+accept-fixed κs x r r' e e' p q = ap (λ (o : Accept). (o .answer, o .work, o .told)) (p ∙ sym q)

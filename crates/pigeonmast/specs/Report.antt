@@ -1,7 +1,8 @@
--- What each exported call answers and leaves in the lent arrays (rules X1 to X6), as the comment at the call says (src/lib.rt). Definitions only.
+-- What each exported call answers and leaves in the lent arrays (rules X1 to X7), as the comment at the call says (src/lib.rt). Definitions only.
 use Prim.Native.Nat.{ℕ}
 use mathlib.Core.Bool.{cond}
 use mathlib.Core.List.{List, [], _∷_}
+use lib.Dec.{eqb}
 use lib.Ieee.{Float}
 use Rattle.aabb.specs.declared.slab.Span.{Span}
 use Rattle.aabb.specs.declared.slab.Span.the-variants.{Passed, Missed}
@@ -19,6 +20,7 @@ use Rattle.watts.specs.declared.fraction.Terms.{Terms}
 use Rattle.watts.specs.declared.Counted.{Counted}
 use Rattle.watts.specs.declared.Counted.the-variants.{Report, Refused}
 use Rattle.watts.specs.Watts.{wattsRefusal, Outcome as Weighing}
+use Rattle.accept.specs.Accept.{Ruling, Outcome as Judging}
 
 -- ---- pigeonmast_abi (rule X5)
 -- the number of the calls' form, PIGEONMAST_ABI of the C header
@@ -169,3 +171,25 @@ reportNumbers (Refused number at) report = report
 -- 0, or the refusal number with its at
 unfoldable pub wattsReport : Weighing → List ℕ → Watts
 wattsReport o report = watts (refusalNumber (wattsRefusal (o .answer))) (reportNumbers (o .answer) report) (refusalAt (wattsRefusal (o .answer)) ∷ []) (o .times) (o .told)
+
+-- ---- pigeonmast_accept (rule X8)
+-- the number, and what told and the work room hold at the end
+pub record Accept : Type 0 where
+  pub answer : ℕ
+  pub told : List ℕ
+  pub work : List ℕ
+
+abbrev pub accept : ℕ → List ℕ → List ℕ → Accept
+accept answer told work = record { answer = answer; told = told; work = work }
+
+-- told = 0, 0; with 19 told = condition, place; with any other refusal told = at, 0
+unfoldable pub conditionTold : Refusal → ℕ → List ℕ
+conditionTold none condition = 0 ∷ 0 ∷ []
+conditionTold (numbered number at) condition = cond (eqb number 19) (condition ∷ at ∷ []) (at ∷ 0 ∷ [])
+
+unfoldable pub acceptTold : Ruling → List ℕ
+acceptTold r = conditionTold (r .refusal) (r .condition)
+
+-- 0, or the refusal number
+unfoldable pub acceptReport : Judging → Accept
+acceptReport o = accept (refusalNumber (o .answer .refusal)) (acceptTold (o .answer)) (o .work)

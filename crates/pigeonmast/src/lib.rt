@@ -5,6 +5,7 @@ use aabb::Aabb;
 use aabb::Ray;
 use aabb::Span;
 use aabb::Vec3;
+use accept::Verdict;
 use builder::Built;
 use sky::Filled;
 use triangle::Found;
@@ -31,7 +32,9 @@ ghost use Rattle.walk.specs.Walk as scene;
 ghost use Rattle.sky.specs.Sky.{skyRefusal, sky as filled};
 ghost use Rattle.watts.specs.Share.{share as shareOf};
 ghost use Rattle.watts.specs.Watts.{wattsRefusal, watts as weighed};
-ghost use Rattle.pigeonmast.specs.Report.{abi, hitNumbers, frontNumber, sideNumber, refusalNumber, refusalAt, build, buildTold, buildReport, walk, walked, sky, skyReport, test, slabReport, triangleReport, triangleNumbers, normals, normalsReport, watts, reportNumbers, wattsReport, shareNumbers};
+ghost use Rattle.accept.specs.Conditions.{foreign};
+ghost use Rattle.accept.specs.Accept.{ruling, accepted};
+ghost use Rattle.pigeonmast.specs.Report.{abi, hitNumbers, frontNumber, sideNumber, refusalNumber, refusalAt, build, buildTold, buildReport, walk, walked, sky, skyReport, test, slabReport, triangleReport, triangleNumbers, normals, normalsReport, watts, reportNumbers, wattsReport, shareNumbers, accept, acceptTold, acceptReport};
 
 // A hit's nine numbers: t, point, normal, u, v.
 fn hit_numbers(hit: Hit) -> [f64; 9]
@@ -227,6 +230,31 @@ fn tell_normals(answer: Refill, told: &mut [u64; 1]) -> u32
     }
 }
 
+// What `accept` answered: the number, with `told` written.
+fn tell_accept(answer: Verdict, told: &mut [u64; 2]) -> u32
+    ensures { λ r. ⌜ r ≡ refusalNumber (ruling answer .refusal) ⌝ }
+    ensures { λ _. ⌜ now (told .exit) ≡ acceptTold (ruling answer) ⌝ }
+{
+    match answer {
+        Verdict::Accepted => {
+            *told = [0, 0];
+            0
+        }
+        Verdict::Refused {
+            number,
+            condition,
+            at,
+        } => {
+            if number == 19 {
+                *told = [condition as u64, at];
+                return number;
+            }
+            *told = [at, 0];
+            number
+        }
+    }
+}
+
 // Builds the tree of the triangles (twelve numbers each: v0, v1, v2, normal) into the lent index list, boxes and links. 0 and told = node
 // count, leaf count; or the refusal number and told = at, 0. `builder::build` says what is written and what is refused.
 #[no_mangle]
@@ -381,4 +409,21 @@ pub extern "C" fn pigeonmast_share(shaded: u64, open: u64, share: &mut [u64; 2])
     let terms = watts::share(shaded, open);
     *share = [terms.above, terms.below];
     0
+}
+
+// Judges a tree that was built elsewhere. 0 and told = 0, 0: it is accepted; 19 and told = the number of the first condition broken, 1 to 6, and the
+// lowest place where it breaks; or the refusal number and told = at, 0. `accept::accept` says what is refused, and what the work room holds after it.
+#[no_mangle]
+pub extern "C" fn pigeonmast_accept(
+    triangles: &[f64],
+    index: &[u32],
+    boxes: &[f64],
+    links: &[u32],
+    work: &mut [u32],
+    told: &mut [u64; 2],
+) -> u32
+    ensures { λ r. ⌜ accept r (now (told .exit)) (now (work .exit)) ≡ acceptReport (accepted (foreign (now (triangles .entry)) (now (index .entry)) (now (boxes .entry)) (now (links .entry))) (now (work .entry))) ⌝ }
+{
+    let answer = accept::accept(triangles, index, boxes, links, work);
+    tell_accept(answer, told)
 }

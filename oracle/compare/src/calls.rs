@@ -33,6 +33,8 @@ pub type Watts = fn(
     &mut [u64; 1],
 ) -> u32;
 
+pub type Accept = fn(&[f64], &[u32], &[f64], &[u32], &mut [u32], &mut [u64; 2]) -> u32;
+
 #[derive(Clone, Copy)]
 pub struct Calls {
     pub build: Build,
@@ -45,6 +47,7 @@ pub struct Calls {
     pub normals: fn(&mut [f64], &mut [u64; 1]) -> u32,
     pub watts: Watts,
     pub share: fn(u64, u64, &mut [u64; 2]) -> u32,
+    pub accept: Accept,
 }
 
 impl Calls {
@@ -102,6 +105,7 @@ pub const READING: Calls = Calls {
     normals: reading::calls::normals,
     watts: reading::calls::watts,
     share: reading::calls::share,
+    accept: reading::calls::accept,
 };
 
 /// Equal bit for bit; two NaNs count as one.

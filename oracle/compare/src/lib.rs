@@ -1,6 +1,7 @@
 //! What the runs share: seeded meshes, rays and hostile lists, and the checks
 //! that hold the calls to the published Rust and to the reading.
 
+pub mod accept_check;
 pub mod calls;
 pub mod foreign_check;
 pub mod functions;

@@ -4,8 +4,8 @@ use crate::calls::Calls;
 use crate::mesh_check::{self, Case, Tally};
 use crate::random::Random;
 use crate::{
-    foreign_check, functions, hostile, meshes, node_room, normal_check, rays, reading_check,
-    root_check, show, sky_check, watts_check, Lists,
+    accept_check, foreign_check, functions, hostile, meshes, node_room, normal_check, rays,
+    reading_check, root_check, show, sky_check, watts_check, Lists,
 };
 use std::collections::BTreeMap;
 
@@ -21,6 +21,7 @@ pub struct Plan {
     pub shares: usize,
     pub functions: usize,
     pub roots: usize,
+    pub accepts: usize,
 }
 
 pub const QUICK: Plan = Plan {
@@ -34,6 +35,7 @@ pub const QUICK: Plan = Plan {
     shares: 100_000,
     functions: 1_000_000,
     roots: 1_000_000,
+    accepts: 300_000,
 };
 
 pub const LONG: Plan = Plan {
@@ -47,6 +49,7 @@ pub const LONG: Plan = Plan {
     shares: 1_000_000,
     functions: 20_000_000,
     roots: 100_000_000,
+    accepts: 6_000_000,
 };
 
 /// Prints as it goes. Answers how many differed.
@@ -61,6 +64,7 @@ pub fn all(calls: &Calls, plan: &Plan) -> u64 {
         every_function(calls, plan),
         every_root(calls, plan),
         every_normal(calls, plan),
+        every_accept(calls, plan),
     ];
     parts.iter().sum()
 }
@@ -418,6 +422,28 @@ fn every_normal(calls: &Calls, plan: &Plan) -> u64 {
         "normals, seed {}: {} triangles of arbitrary corners ({long} not (0, 1, 0)), meshes {answers:?}",
         plan.seed ^ 9,
         plan.functions
+    );
+    found.end()
+}
+
+/// Trees from elsewhere, valid, with faults and at random.
+fn every_accept(calls: &Calls, plan: &Plan) -> u64 {
+    let mut found = Found::default();
+    let mut r = Random::new(plan.seed ^ 10);
+    let mut answers = BTreeMap::new();
+    for _ in 0..plan.accepts {
+        let case = accept_check::case(&mut r);
+        match accept_check::check(calls, &case) {
+            Ok(answer) => *answers.entry(answer).or_insert(0_u64) += 1,
+            Err(why) => found.add(case.lists.links.len() + case.mesh.len(), || {
+                format!("  {why}\n  {case:?}")
+            }),
+        }
+    }
+    println!(
+        "trees from elsewhere, seed {}: {} judged; by answer and condition {answers:?}",
+        plan.seed ^ 10,
+        plan.accepts
     );
     found.end()
 }

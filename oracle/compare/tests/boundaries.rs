@@ -2,7 +2,7 @@
 //! skies of rays to every answer.
 
 use compare::calls::READING;
-use compare::{meshes, random::Random, sky_check, world};
+use compare::{accept_check, hostile, meshes, random::Random, sky_check, world};
 use reading::PLACE_TOLD;
 use std::collections::BTreeSet;
 
@@ -59,4 +59,35 @@ fn skies_come_to_every_answer() {
     let wanted = [0, 5, 7, 8, 9, 10, 11, 12, 100].into();
     assert!(outcomes.is_superset(&wanted), "{outcomes:?}");
     assert!(spare > 500 && among_others > 200, "{spare} {among_others}");
+}
+
+#[test]
+fn trees_from_elsewhere_come_to_every_answer() {
+    let mut r = Random::new(6);
+    let (mut answers, mut accepted) = (BTreeSet::new(), 0);
+    for _ in 0..20_000 {
+        let case = accept_check::case(&mut r);
+        let answer = accept_check::check(&READING, &case).unwrap();
+        answers.insert(answer);
+        accepted += u32::from(answer.0 == 0);
+    }
+    let refusals = [0, 1, 5, 8, 16].map(|number| (number, 0));
+    let conditions = [1, 2, 3, 4, 5, 6].map(|condition| (19, condition));
+    assert!(
+        answers.iter().eq(refusals.iter().chain(&conditions)),
+        "{answers:?}"
+    );
+    assert!(accepted > 2_000, "{accepted} of 20,000 accepted");
+}
+
+#[test]
+fn what_the_reading_builds_it_accepts() {
+    let mut r = Random::new(7);
+    for _ in 0..2_000 {
+        let built = hostile::built(&mut r);
+        let work = vec![7; built.lists.links.len() / 3 + built.mesh.len() / 12];
+        let (mesh, lists) = (built.mesh, built.lists);
+        let case = accept_check::Case { mesh, lists, work };
+        assert_eq!(accept_check::check(&READING, &case), Ok((0, 0)));
+    }
 }

@@ -17,6 +17,7 @@ fn the_reading_is_the_rust() {
         shares: 2_000,
         functions: 20_000,
         roots: 20_000,
+        accepts: 1_000,
     };
     assert_eq!(all(&READING, &plan), 0);
 }

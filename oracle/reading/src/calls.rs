@@ -1,10 +1,8 @@
 //! The reading behind the boundary of the exported calls.
 
 use crate::walk::Answer;
-use crate::{
-    boxes, builder, normals as refill, sky as skies, triangles, walk as walker, watts as weighed,
-};
-use crate::{Numbers, Told};
+use crate::{accept as judge, boxes, builder, normals as refill, sky as skies, triangles};
+use crate::{walk as walker, watts as weighed, Numbers, Told};
 
 pub fn build(
     triangles: &[f64],
@@ -141,5 +139,22 @@ pub fn normals(triangles: &mut [f64], told: &mut [u64; 1]) -> u32 {
         Err(refusal) => (refusal.number, refusal.at),
     };
     *told = [at];
+    number
+}
+
+pub fn accept(
+    triangles: &[f64],
+    index: &[u32],
+    boxes: &[f64],
+    links: &[u32],
+    work: &mut [u32],
+    told: &mut [u64; 2],
+) -> u32 {
+    let (number, what) = match judge::accept(triangles, index, boxes, links, work) {
+        Ok(None) => (0, [0, 0]),
+        Ok(Some(broken)) => (19, [u64::from(broken.condition), broken.place as u64]),
+        Err(refusal) => (refusal.number, [refusal.at, 0]),
+    };
+    *told = what;
     number
 }

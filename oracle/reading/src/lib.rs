@@ -7,6 +7,7 @@
 //! any other look at it; first + count and left + 1 are worked out wider than
 //! u32; 6 zeroes spare room too.
 
+pub mod accept;
 pub mod boxes;
 pub mod builder;
 pub mod calls;

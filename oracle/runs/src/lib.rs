@@ -16,6 +16,7 @@ pub const PIGEONMAST: Calls = Calls {
     normals: raw::normals,
     watts: raw::watts,
     share: raw::share,
+    accept: raw::accept,
 };
 
 /// A clear line, and the status of bad usage.

@@ -260,6 +260,60 @@ fn refill_on(name: &str, mesh: &[f64]) {
     );
 }
 
+/// A built tree judged, beside the reading's plain check of the same; and beside
+/// building it.
+fn accept_on(name: &str, mesh: &[f64], r: &mut Random) {
+    let n = mesh.len() / 12;
+    let lists = built(mesh, r);
+    let nodes = lists.links.len() / 3;
+    let (mut work, mut other) = (vec![0; nodes + n], vec![0; nodes + n]);
+    let mut told = [0; 2];
+    let Lists {
+        index,
+        boxes,
+        links,
+    } = &lists;
+    let ns = least(
+        RUNS,
+        || {
+            let said = reading::accept::accept(black_box(mesh), index, boxes, links, &mut other);
+            if black_box(said) != Ok(None) {
+                stop("speed: the reading does not accept the tree");
+            }
+        },
+        || {
+            let number = raw::accept(black_box(mesh), index, boxes, links, &mut work, &mut told);
+            if number != 0 {
+                stop(&format!("speed: the tree is refused: {number} {told:?}"));
+            }
+        },
+    );
+    row(&format!("accept, {name}, {n} triangles"), n as f64, ns);
+    let room = node_room(n);
+    let mut rooms = Lists::rooms(r, n, 6 * room, 3 * room);
+    let beside = least(
+        RUNS,
+        || {
+            black_box(build(black_box(mesh), &mut rooms));
+        },
+        || {
+            black_box(raw::accept(
+                black_box(mesh),
+                index,
+                boxes,
+                links,
+                &mut work,
+                &mut told,
+            ));
+        },
+    );
+    row(
+        &format!("accept beside its own build, {name}, {n} triangles"),
+        n as f64,
+        beside,
+    );
+}
+
 /// How box tests grow with the mesh: the mean over rays from just above a
 /// triangle of the terrain towards a sun that stands high, and of the mixed
 /// rays of the first table.
@@ -343,6 +397,13 @@ fn main() {
     root_on("2^-20 to 2^20", &near);
     for (name, mesh) in &largest {
         refill_on(name, mesh);
+    }
+
+    println!("\nns a triangle, trees accepted; least of {RUNS} runs in turn.\n");
+    println!("| what | plain Rust, or the build | Pigeonmast | ratio |");
+    println!("|---|---:|---:|---:|");
+    for (name, mesh) in &largest {
+        accept_on(name, mesh, &mut r);
     }
 
     println!("\nBox tests a ray, mean of {SKY}.\n");

@@ -1,0 +1,4 @@
+pub mod Lowest
+pub mod Conditions
+pub mod Accept
+pub mod inner

@@ -1,0 +1,12 @@
+pub mod Sums
+pub mod Vertices
+pub mod Good
+pub mod Family
+pub mod Growing
+pub mod Entries
+pub mod Accepting
+pub mod Nodes
+pub mod Reaching
+pub mod Unbroken
+pub mod Judged
+pub mod Exactly
