@@ -6,13 +6,13 @@
 #include <string.h>
 #include <xmmintrin.h>
 
-enum { TRIANGLES = 40, NODES = 2 * TRIANGLES - 1, RAYS = 64, TOLD = 5 };
+enum { TRIANGLES = 40, NODES = 2 * TRIANGLES - 1, RAYS = 64, TIMES = 3, TOLD = 5 };
 
 /* All that a build, a sky and the two tests answer and write. */
 struct answers {
     uint64_t built[2], at[1], told[TOLD * RAYS];
     uint32_t number[4], index[TRIANGLES], links[3 * NODES];
-    double boxes[6 * NODES], times[RAYS], span[2], numbers[7];
+    double boxes[6 * NODES], times[TIMES * RAYS], span[2], numbers[9];
 };
 
 /* Numbers as they come, flat directions and a zero one among them, so that the
@@ -39,7 +39,7 @@ static void run(struct answers *a)
                                     a->links, 3 * NODES, a->built);
     a->number[1] = pigeonmast_sky(mesh, 12 * TRIANGLES, materials, TRIANGLES, a->index, TRIANGLES,
                                   a->boxes, 6 * a->built[0], a->links, 3 * a->built[0], rays, 6 * RAYS,
-                                  a->times, RAYS, a->told, TOLD * RAYS, a->at);
+                                  a->times, TIMES * RAYS, a->told, TOLD * RAYS, a->at);
     a->number[2] = pigeonmast_slab(a->boxes, rays, a->span);
     a->number[3] = pigeonmast_triangle(mesh, rays, a->numbers);
 }

@@ -52,7 +52,7 @@ extern "C" {
 /* The form of these calls: what pigeonmast_abi() answers, where the library is
  * the one that this header was written for. It rises when a call's parameters,
  * or what it writes, change. */
-#define PIGEONMAST_ABI 2
+#define PIGEONMAST_ABI 3
 
 /* The answer of pigeonmast_walk for a hit, and the outcome that pigeonmast_sky
  * tells of one. No refusal has this number. */
@@ -100,11 +100,12 @@ uint32_t pigeonmast_build(const double *triangles, size_t triangles_len,
 
 /* Walks the tree with one ray. Hand over the 2L-1 nodes and n index entries
  * without spare room.
- * Answers PIGEONMAST_HIT with numbers = t, point, normal and told = triangle,
- * front (1 or 0), box tests, triangle tests, the triangle's material; 0 for a
- * miss with told = 0, 0, box tests, triangle tests, 0; else the refusal with
- * told = at, 0, 0, 0, 0. numbers stay unchanged unless it is a hit. Of triangles
- * met at numerically equal t the lowest number is the hit.
+ * Answers PIGEONMAST_HIT with numbers = t, point, normal, u, v and told =
+ * triangle, front (1 or 0), box tests, triangle tests, the triangle's material; 0
+ * for a miss with told = 0, 0, box tests, triangle tests, 0; else the refusal
+ * with told = at, 0, 0, 0, 0. numbers stay unchanged unless it is a hit. The
+ * point is v0 + u (v1 - v0) + v (v2 - v0), up to rounding. Of triangles met at
+ * numerically equal t the lowest number is the hit.
  * Refused in this order: 1, 2, 18, 7, 8, then step by step. A step takes the
  * last pending node, the root first: 12, 9, the box test. If the ray passes, of
  * a leaf 9 (its range) and for each entry 10, 5, the triangle test; of an
@@ -115,17 +116,17 @@ uint32_t pigeonmast_walk(const double *triangles, size_t triangles_len,
                          const uint32_t *index, size_t index_len,
                          const double *boxes, size_t boxes_len,
                          const uint32_t *links, size_t links_len,
-                         const double ray[6], double numbers[7],
+                         const double ray[6], double numbers[9],
                          uint64_t told[5]);
 
 /* Walks the tree with every ray of rays (6 numbers each), as pigeonmast_walk
- * would one by one. Answers 0 with at = 0, times = t of each ray's hit, else 0,
- * and told five a ray: outcome (0 for a miss, PIGEONMAST_HIT for a hit, else the
- * refusal), triangle or the refusal's at, box tests, triangle tests, material (0
- * where it is no hit). A refused ray does not stop the rest; room beyond the rays
- * stays. Or answers refusal 1, 2, 18, 14 or 13 (in this order) of the whole call,
- * with its at; times and told stay unchanged. Room for one of times and five of
- * told a ray is asked. */
+ * would one by one. Answers 0 with at = 0, times three a ray: t, u, v of its hit,
+ * else 0, and told five a ray: outcome (0 for a miss, PIGEONMAST_HIT for a hit,
+ * else the refusal), triangle or the refusal's at, box tests, triangle tests,
+ * material (0 where it is no hit). A refused ray does not stop the rest; room
+ * beyond the rays stays. Or answers refusal 1, 2, 18, 14 or 13 (in this order) of
+ * the whole call, with its at; times and told stay unchanged. Room for three of
+ * times and five of told a ray is asked. */
 uint32_t pigeonmast_sky(const double *triangles, size_t triangles_len,
                         const uint32_t *materials, size_t materials_len,
                         const uint32_t *index, size_t index_len,
@@ -142,9 +143,9 @@ uint32_t pigeonmast_slab(const double bounds[6], const double ray[6],
                          double times[2]);
 
 /* Where a ray meets a triangle: 2 for its front or 1 for its back with numbers =
- * t, point, normal; or 0 with numbers unchanged. Answers on every double. */
+ * t, point, normal, u, v; or 0 with numbers unchanged. Answers on every double. */
 uint32_t pigeonmast_triangle(const double triangle[12], const double ray[6],
-                             double numbers[7]);
+                             double numbers[9]);
 
 /* The square root, rounded to nearest even: -0 gives -0, +inf itself, and a NaN
  * or a number below zero a NaN. Answers on every double. */

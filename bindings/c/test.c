@@ -5,7 +5,7 @@
 
 static int differ;
 
-/* Every number here is exact, so != is what is meant. */
+/* Every number here is known to the last bit, so != is what is meant. */
 static void same(int line, const char *what, size_t k, double got, double wanted)
 {
     if (got != wanted) {
@@ -24,7 +24,8 @@ int main(void)
     const double t[12] = {0, 0, 0, 1, 0, 0, 0, 1, 0, 0, 0, 1}, unit[6] = {0, 0, 0, 1, 1, 1};
     const double p2[6] = {0.25, 0.25, 1, 0, 0, -1}, p3[6] = {0.25, 0.25, -1, 0, 0, 1};
     const double rays[12] = {17, 1, 1, 0, 0, -1, 25, 1, 1, 0, 0, -1}; /* P11, P12 */
-    double mesh[60] = {0}, boxes[54], numbers[7] = {9}, times[3] = {9, 9, 9};
+    const double spot[6] = {0.25, 0.5, 1, 0, 0, -1}, third = 1 / 3.0; /* u and v of their own */
+    double mesh[60] = {0}, boxes[54], numbers[9] = {9}, times[7] = {9, 9, 9, 9, 9, 9, 9};
     uint32_t index[6] = {9, 9, 9, 9, 9, 9}, links[27];
     const uint32_t materials[5] = {30, 31, 32, 33, 34};
     uint64_t told[5], places[11] = {9, 9, 9, 9, 9, 9, 9, 9, 9, 9, 9}, at[1] = {9};
@@ -53,16 +54,17 @@ int main(void)
     HOLDS(told, 0, 0, 0, 0, 0);
     ANSWERS(pigeonmast_walk(TREE, rays, numbers, told), PIGEONMAST_HIT);
     HOLDS(told, 1, 1, 3, 2, 31);
-    HOLDS(numbers, 1, 17, 1, 0, 0, 0, 1);
+    HOLDS(numbers, 1, 17, 1, 0, 0, 0, 1, third, third);
     ANSWERS(pigeonmast_walk(TREE, rays + 6, numbers, told), 0);
     HOLDS(told, 0, 0, 3, 0, 0);
     ANSWERS(pigeonmast_sky(OF(4), rays, 11, times, 0, places, 0, at), PIGEONMAST_MATERIAL_LIST);
     ANSWERS(pigeonmast_sky(TREE, rays, 11, times, 0, places, 0, at), PIGEONMAST_RAY_NUMBERS);
-    ANSWERS(pigeonmast_sky(TREE, rays, 12, times, 2, places, 9, at), PIGEONMAST_ANSWER_ROOM);
-    HOLDS(times, 9, 9, 9);
-    ANSWERS(pigeonmast_sky(TREE, rays, 12, times, 3, places, 11, at), 0);
+    ANSWERS(pigeonmast_sky(TREE, rays, 12, times, 5, places, 11, at), PIGEONMAST_ANSWER_ROOM);
+    ANSWERS(pigeonmast_sky(TREE, rays, 12, times, 7, places, 9, at), PIGEONMAST_ANSWER_ROOM);
+    HOLDS(times, 9, 9, 9, 9, 9, 9, 9);
+    ANSWERS(pigeonmast_sky(TREE, rays, 12, times, 7, places, 11, at), 0);
     HOLDS(at, 0);
-    HOLDS(times, 1, 0, 9);
+    HOLDS(times, 1, third, third, 0, 0, 0, 9);
     HOLDS(places, PIGEONMAST_HIT, 1, 3, 2, 31, 0, 0, 3, 0, 0, 9);
 
 #define ONE t, 12, materials, 1, index, 1, unit, 6, links + 6, 3
@@ -70,9 +72,15 @@ int main(void)
     links[6] = 0, links[7] = 1;
     ANSWERS(pigeonmast_walk(ONE, p2, numbers, told), PIGEONMAST_HIT);
     HOLDS(told, 0, 1, 1, 1, 30);
-    HOLDS(numbers, 1, 0.25, 0.25, 0, 0, 0, 1);
+    HOLDS(numbers, 1, 0.25, 0.25, 0, 0, 0, 1, 0.25, 0.25);
+    ANSWERS(pigeonmast_walk(ONE, spot, numbers, told), PIGEONMAST_HIT);
+    HOLDS(numbers, 1, 0.25, 0.5, 0, 0, 0, 1, 0.25, 0.5);
+    ANSWERS(pigeonmast_sky(ONE, spot, 6, times, 3, places, 5, at), 0);
+    HOLDS(times, 1, 0.25, 0.5, 0, 0, 0, 9);
     ANSWERS(pigeonmast_triangle(t, p3, numbers), 1);
-    HOLDS(numbers, 1, 0.25, 0.25, 0, 0, 0, -1);
+    HOLDS(numbers, 1, 0.25, 0.25, 0, 0, 0, -1, 0.25, 0.25);
+    ANSWERS(pigeonmast_triangle(t, spot, numbers), 2);
+    HOLDS(numbers, 1, 0.25, 0.5, 0, 0, 0, 1, 0.25, 0.5);
     ANSWERS(pigeonmast_triangle(t, rays, numbers), 0);
     ANSWERS(pigeonmast_slab(unit, p2, times), 1);
     HOLDS(times, 0, 1);

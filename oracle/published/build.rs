@@ -4,7 +4,7 @@
 //!   stand, unchanged (`#[path]`).
 //! - scene.rs leans on nalgebra, so it is not compiled whole: the function
 //!   `intersect_blas` is cut out of it, and only `pub` is put before it.
-//! - Four changed texts stand beside them, each made by substitutions that
+//! - Five changed texts stand beside them, each made by substitutions that
 //!   fail where their needle is not found exactly once: see below.
 
 use std::path::{Path, PathBuf};
@@ -44,6 +44,7 @@ fn run() -> Result<(), String> {
         println!("cargo:rerun-if-changed={}", path.display());
         fs::read_to_string(&path).map_err(|e| format!("{}: {e}", path.display()))
     };
+    let triangle = read("triangle.rs")?;
     let builder = read("builder.rs")?;
     let scene = read("scene.rs")?;
     let cost = read("cost.rs")?;
@@ -60,12 +61,30 @@ fn run() -> Result<(), String> {
     // A module's path is taken from the file that names it: both in OUT_DIR.
     modules += "#[path = \"ordered.rs\"]\npub mod ordered;\n";
     write("modules.rs", &modules)?;
+    write("spotted.rs", &spotted(&triangle)?)?;
     write("ordered.rs", &ordered(&builder)?)?;
     write("intersect_blas.rs", &visible(&scene)?)?;
     let counted = counted(&scene)?;
     write("counted.rs", &counted)?;
     write("ruled.rs", &ruled(&counted)?)?;
     write("cost_loop.rs", &cost_loop(&cost)?)
+}
+
+/// The triangle test of triangle.rs, which also tells u and v as it has them
+/// (rule T8): the record that it makes is handed over in a `Spot`.
+fn spotted(triangle: &str) -> Result<String, String> {
+    let file = "triangle.rs";
+    let test = "    pub fn intersect(";
+    let mut text = cut(triangle, test, "    }", file)?.to_string();
+    for (needle, by) in [
+        (test, "    pub fn intersect_spotted("),
+        ("-> Option<HitRecord> {", "-> Option<Spot> {"),
+        ("Some(HitRecord {", "Some(Spot { u, v, hit: HitRecord {"),
+        ("surface_index,\n        })", "surface_index,\n        } })"),
+    ] {
+        text = change(&text, needle, by, file)?;
+    }
+    Ok(format!("impl Triangle {{\n{text}}}\n"))
 }
 
 /// builder.rs with rule C5's order where the Rust leaves it open: the whole
@@ -92,8 +111,9 @@ fn visible(scene: &str) -> Result<String, String> {
     Ok(format!("pub {}", cut(scene, BLAS, "}", "scene.rs")?))
 }
 
-/// `intersect_blas` with the two counts of rules W3 and W4 and the triangle's
-/// number for `surface_index`. cost.rs counts at the same two places.
+/// `intersect_blas` with the two counts of rules W3 and W4, the triangle's
+/// number for `surface_index`, and u and v. cost.rs counts at the same two
+/// places.
 fn counted(scene: &str) -> Result<String, String> {
     let mut text = cut(scene, BLAS, "}", "scene.rs")?.to_string();
     let test = "if node.aabb.intersect_ray(ray).is_none() {";
@@ -101,10 +121,11 @@ fn counted(scene: &str) -> Result<String, String> {
     for (needle, by) in [
         (BLAS, "pub fn intersect_blas_counted(".to_string()),
         ("    instance_idx: usize,\n", String::new()),
-        ("-> Option<HitRecord> {", "-> (Option<HitRecord>, u64, u64) {\n    let (mut box_tests, mut triangle_tests) = (0_u64, 0_u64);".into()),
+        ("-> Option<HitRecord> {", "-> (Option<Spot>, u64, u64) {\n    let (mut box_tests, mut triangle_tests) = (0_u64, 0_u64);".into()),
+        ("closest_hit: Option<HitRecord>", "closest_hit: Option<Spot>".into()),
         (test, format!("box_tests += 1;\n        {test}")),
         (entry, format!("triangle_tests += 1;\n                {entry}")),
-        (".intersect(ray, instance_idx)", ".intersect(ray, tri_idx)".into()),
+        (".intersect(ray, instance_idx)", ".intersect_spotted(ray, tri_idx)".into()),
         ("\n    closest_hit\n}", "\n    (closest_hit, box_tests, triangle_tests)\n}".into()),
     ] {
         text = change(&text, needle, &by, "scene.rs")?;
@@ -116,7 +137,7 @@ fn counted(scene: &str) -> Result<String, String> {
 /// triangle number wins; it also tells how many more are met at the hit's t.
 fn ruled(counted: &str) -> Result<String, String> {
     let mut text = counted.to_string();
-    let told = "(Option<HitRecord>, u64, u64";
+    let told = "(Option<Spot>, u64, u64";
     let end = "(closest_hit, box_tests, triangle_tests";
     let test = "if hit.t < closest_t {";
     let lower = "closest_hit.as_ref().is_some_and(|h| tri_idx < h.surface_index)";

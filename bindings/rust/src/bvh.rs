@@ -66,6 +66,10 @@ pub struct PlaceHit {
     pub triangle: usize,
     /// The ray's parameter there.
     pub t: f64,
+    /// Where on the triangle: [`HitRecord::u`].
+    pub u: f64,
+    /// [`HitRecord::v`].
+    pub v: f64,
     /// The triangle's material: what [`Bvh::with_materials`] gave it, else 0.
     pub material: u32,
 }
@@ -77,6 +81,8 @@ impl Place {
             raw::HIT => Some(PlaceHit {
                 triangle: told[1] as usize,
                 t: times[0],
+                u: times[1],
+                v: times[2],
                 material: told[4] as u32,
             }),
             number => return Err(Refusal::new(number, told[1])),
@@ -283,10 +289,10 @@ impl Bvh {
     /// use pigeonmast::{Bvh, Ray, Refusal};
     /// let t = vec![0.0, 0.0, 0.0, 1.0, 0.0, 0.0, 0.0, 1.0, 0.0, 0.0, 0.0, 1.0];
     /// let bvh = Bvh::from_numbers(t)?;
-    /// let down = |x| Ray::from([x, 0.25, 1.0, 0.0, 0.0, -1.0]);
+    /// let down = |x| Ray::from([x, 0.5, 1.0, 0.0, 0.0, -1.0]);
     /// let places = bvh.sky(&[down(0.25), down(f64::NAN), down(2.0)])?;
     /// let hit = places[0]?.hit.expect("it lies below");
-    /// assert_eq!((hit.triangle, hit.t), (0, 1.0));
+    /// assert_eq!((hit.triangle, hit.t, hit.u, hit.v), (0, 1.0, 0.25, 0.5));
     /// assert_eq!(places[1], Err(Refusal::RayNotAdmitted));
     /// assert_eq!(places[2]?.hit, None);
     /// # Ok::<(), pigeonmast::Refusal>(())

@@ -28,7 +28,7 @@ extern "C" {
         links: *const u32,
         links_len: usize,
         ray: *const [f64; 6],
-        numbers: *mut [f64; 7],
+        numbers: *mut [f64; 9],
         told: *mut [u64; 5],
     ) -> u32;
 
@@ -61,7 +61,7 @@ extern "C" {
     pub fn pigeonmast_triangle(
         triangle: *const [f64; 12],
         ray: *const [f64; 6],
-        numbers: *mut [f64; 7],
+        numbers: *mut [f64; 9],
     ) -> u32;
 
     pub fn pigeonmast_root(x: f64) -> f64;

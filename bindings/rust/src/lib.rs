@@ -32,7 +32,8 @@
 //! shaded.
 //!
 //! `material_id` stands not in a [`Triangle`] but beside it: [`Bvh::with_materials`]
-//! gives each triangle one, and every hit tells the material that was struck.
+//! gives each triangle one, and every hit tells the material that was struck. It
+//! also tells the spot: u and v, which `optics-bvh` works out and drops.
 //!
 //! [`Triangle::new`] works a normal out, [`refill_normals`] those of a whole mesh.
 //!

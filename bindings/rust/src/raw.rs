@@ -17,16 +17,16 @@ use crate::ffi;
 pub const HIT: u32 = 100;
 
 /// The form of the calls that this crate is written for.
-pub const ABI: u32 = 2;
+pub const ABI: u32 = 3;
 
-/// What a hit has: t, point, normal.
-pub const HIT_NUMBERS: usize = 7;
+/// What a hit has: t, point, normal, u, v.
+pub const HIT_NUMBERS: usize = 9;
 
 /// What [`walk`] tells: triangle, front, box tests, triangle tests, material.
 pub const WALK_TOLD: usize = 5;
 
-/// What [`sky`] writes to `times` for each ray: t.
-pub const PLACE_TIMES: usize = 1;
+/// What [`sky`] writes to `times` for each ray: t, u, v.
+pub const PLACE_TIMES: usize = 3;
 
 /// What [`sky`] tells of each ray: outcome, triangle, box tests, triangle tests,
 /// material.
@@ -83,11 +83,11 @@ pub fn build(
 /// Walks a tree with one ray (origin, direction); `materials` has one for each
 /// triangle.
 ///
-/// Answers [`HIT`] with `numbers` = t, point, normal and `told` = triangle,
-/// front (1 or 0), box tests, triangle tests, the triangle's material; 0 for a
-/// miss with `told` = 0, 0, box tests, triangle tests, 0; else the refusal's
-/// number with `told` = at, 0, 0, 0, 0. `numbers` stay unchanged unless it is a
-/// hit.
+/// Answers [`HIT`] with `numbers` = t, point, normal, u, v and `told` =
+/// triangle, front (1 or 0), box tests, triangle tests, the triangle's material;
+/// 0 for a miss with `told` = 0, 0, box tests, triangle tests, 0; else the
+/// refusal's number with `told` = at, 0, 0, 0, 0. `numbers` stay unchanged unless
+/// it is a hit.
 ///
 /// ```
 /// use pigeonmast::raw;
@@ -134,12 +134,12 @@ pub fn walk(
 /// Walks a tree with every ray of `rays`, six numbers each, as [`walk`] would one
 /// by one.
 ///
-/// Answers 0 with `at` = 0, `times` = t of each ray's hit, else 0, and `told`
-/// five a ray ([`PLACE_TOLD`]): outcome (0 for a miss, [`HIT`], else the refusal's
-/// number), triangle or the refusal's at, box tests, triangle tests, material (0
-/// where it is no hit). A refused ray does not stop the rest; room beyond the rays
-/// stays. Or refusal 1, 2, 18, 14 or 13 of the whole call, with its `at`; `times`
-/// and `told` stay unchanged.
+/// Answers 0 with `at` = 0, `times` three a ray ([`PLACE_TIMES`]): t, u, v of its
+/// hit, else 0, and `told` five a ray ([`PLACE_TOLD`]): outcome (0 for a miss,
+/// [`HIT`], else the refusal's number), triangle or the refusal's at, box tests,
+/// triangle tests, material (0 where it is no hit). A refused ray does not stop
+/// the rest; room beyond the rays stays. Or refusal 1, 2, 18, 14 or 13 of the
+/// whole call, with its `at`; `times` and `told` stay unchanged.
 ///
 /// ```
 /// use pigeonmast::raw;
@@ -151,7 +151,7 @@ pub fn walk(
 /// assert_eq!((answer, at, told[0]), (0, [0], 8));
 /// assert!(told[1..raw::PLACE_TOLD].iter().all(|x| *x == 0));
 /// assert!(told[raw::PLACE_TOLD..].iter().all(|x| *x == 9));
-/// assert_eq!((times[0], times[raw::PLACE_TIMES]), (0.0, 9.0));
+/// assert_eq!(times, [0.0, 0.0, 0.0, 9.0, 9.0, 9.0]);
 /// ```
 #[allow(clippy::too_many_arguments)]
 pub fn sky(
@@ -197,8 +197,8 @@ pub fn slab(bounds: &[f64; 6], ray: &[f64; 6], times: &mut [f64; 2]) -> u32 {
 }
 
 /// Where a ray meets a triangle: 2 for its front or 1 for its back with
-/// `numbers` = t, point, normal; or 0 with `numbers` unchanged. Answers on every
-/// number.
+/// `numbers` = t, point, normal, u, v; or 0 with `numbers` unchanged. Answers on
+/// every number.
 pub fn triangle(triangle: &[f64; 12], ray: &[f64; 6], numbers: &mut [f64; HIT_NUMBERS]) -> u32 {
     // SAFETY: three arrays of the lengths that the call is declared with.
     unsafe { ffi::pigeonmast_triangle(triangle, ray, numbers) }

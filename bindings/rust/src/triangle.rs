@@ -39,6 +39,11 @@ pub struct HitRecord {
     pub point: Vec3,
     /// The triangle's normal, negated where the ray meets its back.
     pub normal: Vec3,
+    /// Where on the triangle: the point is v0 + u·(v1 - v0) + v·(v2 - v0), up to
+    /// rounding. In a walk 0 <= u, 0 <= v and u + v <= 1.
+    pub u: f64,
+    /// See `u`.
+    pub v: f64,
     /// Whether the ray meets the front: direction·normal < 0.
     pub is_front_face: bool,
     /// The triangle's number.
@@ -51,11 +56,13 @@ pub struct HitRecord {
 impl HitRecord {
     /// Of triangle 0, without a material.
     pub(crate) fn new(numbers: [f64; raw::HIT_NUMBERS], is_front_face: bool) -> Self {
-        let [t, px, py, pz, nx, ny, nz] = numbers;
+        let [t, px, py, pz, nx, ny, nz, u, v] = numbers;
         Self {
             t,
             point: Vec3::new(px, py, pz),
             normal: Vec3::new(nx, ny, nz),
+            u,
+            v,
             is_front_face,
             triangle: 0,
             material: 0,
@@ -122,9 +129,10 @@ impl Triangle {
     /// ```
     /// use pigeonmast::{Ray, Triangle, Vec3};
     /// let t = Triangle::from([0.0, 0.0, 0.0, 1.0, 0.0, 0.0, 0.0, 1.0, 0.0, 0.0, 0.0, 1.0]);
-    /// let up = Ray::new(Vec3::new(0.25, 0.25, -1.0), Vec3::new(0.0, 0.0, 1.0));
+    /// let up = Ray::new(Vec3::new(0.25, 0.5, -1.0), Vec3::new(0.0, 0.0, 1.0));
     /// let hit = t.intersect(&up, 0).expect("from below");
     /// assert_eq!((hit.t, hit.is_front_face, hit.normal.z), (1.0, false, -1.0));
+    /// assert_eq!((hit.u, hit.v), (0.25, 0.5));
     /// ```
     #[must_use]
     pub fn intersect(&self, ray: &Ray, number: usize) -> Option<HitRecord> {

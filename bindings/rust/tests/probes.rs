@@ -55,6 +55,7 @@ fn p2_to_p7_one_triangle() {
         (hit.t, hit.point, hit.is_front_face),
         (1.0, Vec3::new(0.25, 0.25, 0.0), true)
     );
+    assert_eq!((hit.u, hit.v), (0.25, 0.25));
     assert_eq!(counts(&p2), (1, 1));
     let p3 = walk(&bvh, 0.25, 0.25, -1.0, Vec3::new(0.0, 0.0, 1.0))
         .hit
@@ -64,7 +65,8 @@ fn p2_to_p7_one_triangle() {
     assert_eq!((p4.hit, counts(&p4)), (None, (1, 1)));
     let p5 = walk(&bvh, 2.0, 0.25, 1.0, DOWN);
     assert_eq!((p5.hit, counts(&p5)), (None, (1, 0)));
-    assert_eq!(walk(&bvh, 0.5, 0.5, 1.0, DOWN).hit.expect("P6").t, 1.0);
+    let p6 = walk(&bvh, 0.5, 0.5, 1.0, DOWN).hit.expect("P6");
+    assert_eq!((p6.t, p6.u, p6.v), (1.0, 0.5, 0.5));
     assert!(walk(&bvh, 0.25, 0.25, 2.0_f64.powi(-20), DOWN)
         .hit
         .is_none());
@@ -104,6 +106,7 @@ fn p10_to_p12_five_in_a_row() {
     let p11 = walk(&bvh, 17.0, 1.0, 1.0, DOWN);
     let hit = p11.hit.expect("P11");
     assert_eq!((hit.triangle, hit.t, counts(&p11)), (1, 1.0, (3, 2)));
+    assert_eq!((hit.u, hit.v), (1.0 / 3.0, 1.0 / 3.0));
     let p12 = walk(&bvh, 25.0, 1.0, 1.0, DOWN);
     assert_eq!((p12.hit, counts(&p12)), (None, (3, 0)));
 }

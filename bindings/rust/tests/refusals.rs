@@ -7,8 +7,9 @@ use pigeonmast::{build_bvh, raw, Bvh, Ray, Refusal, Triangle, Vec3};
 const T: [f64; 12] = [0.0, 0.0, 0.0, 1.0, 0.0, 0.0, 0.0, 1.0, 0.0, 0.0, 0.0, 1.0];
 const UNIT: [f64; 6] = [0.0, 0.0, 0.0, 1.0, 1.0, 1.0];
 
+/// It meets T at u = 0.25 and v = 0.5.
 fn down() -> Ray {
-    Ray::new(Vec3::new(0.25, 0.25, 1.0), Vec3::new(0.0, 0.0, -1.0))
+    Ray::new(Vec3::new(0.25, 0.5, 1.0), Vec3::new(0.0, 0.0, -1.0))
 }
 
 fn told(refusal: Refusal) -> (u32, u64) {
@@ -135,15 +136,16 @@ fn of_a_whole_sky() {
     assert_eq!(sky(&many, &[], &ray[..5], 0, 0), kept(2, 65_537, 0, 0));
     for few_or_many in [&[][..], &[40, 40]] {
         assert_eq!(sky(&T, few_or_many, &ray[..5], 0, 0), kept(18, 0, 0, 0));
-        assert_eq!(sky(&T, few_or_many, &ray, 1, 5), kept(18, 0, 1, 5));
+        assert_eq!(sky(&T, few_or_many, &ray, 3, 5), kept(18, 0, 3, 5));
         assert_eq!(sky(&T, few_or_many, &[], 0, 0), kept(18, 0, 0, 0));
     }
     assert_eq!(sky(&T, &OF_T, &ray[..5], 0, 0), kept(14, 0, 0, 0));
-    assert_eq!(sky(&T, &OF_T, &ray, 0, 5), kept(13, 0, 0, 5));
-    assert_eq!(sky(&T, &OF_T, &ray, 1, 4), kept(13, 0, 1, 4));
+    assert_eq!(sky(&T, &OF_T, &ray, 2, 5), kept(13, 0, 2, 5));
+    assert_eq!(sky(&T, &OF_T, &ray, 3, 4), kept(13, 0, 3, 4));
+    let place = vec![u64::from(raw::HIT), 0, 1, 1, 40];
     assert_eq!(
-        sky(&T, &OF_T, &ray, 1, 5),
-        (0, 0, vec![1.0], vec![u64::from(raw::HIT), 0, 1, 1, 40])
+        sky(&T, &OF_T, &ray, 3, 5),
+        (0, 0, vec![1.0, 0.25, 0.5], place)
     );
     assert_eq!(sky(&T, &OF_T, &[], 0, 0), kept(0, 0, 0, 0));
 }
@@ -156,8 +158,10 @@ fn of_a_ray_among_others() {
     rays[2] = 2.0;
     rays[6] = f64::NAN;
     rays[12] = 2.0;
-    let (number, at, times, told) = sky(&T, &OF_T, &rays, 5, 17);
-    assert_eq!((number, at, times), (0, 0, vec![2.0, 0.0, 0.0, 9.0, 9.0]));
+    let (number, at, times, told) = sky(&T, &OF_T, &rays, 11, 17);
+    assert_eq!((number, at), (0, 0));
+    let wanted = [&[2.0, 0.25, 0.5][..], &[0.0; 6], &[9.0; 2]].concat();
+    assert_eq!(times, wanted);
     let hit = u64::from(raw::HIT);
     let places = [[hit, 0, 1, 1, 40], [7, 0, 0, 0, 0], [0, 0, 1, 0, 0]];
     assert_eq!(told, [places.as_flattened(), &[9, 9]].concat());
@@ -173,8 +177,9 @@ fn of_a_ray_among_others() {
     for (place, ray) in places.iter().zip(&lent) {
         match (place, bvh.intersect(ray)) {
             (Ok(place), Ok(walk)) => {
-                let found = place.hit.map(|h| (h.triangle, h.t, h.material));
-                assert_eq!(found, walk.hit.map(|h| (h.triangle, h.t, h.material)));
+                let found = place.hit.map(|h| (h.triangle, h.t, h.u, h.v, h.material));
+                let one = walk.hit.map(|h| (h.triangle, h.t, h.u, h.v, h.material));
+                assert_eq!(found, one);
                 assert_eq!(place.box_tests, walk.box_tests);
                 assert_eq!(place.triangle_tests, walk.triangle_tests);
             }

@@ -151,8 +151,8 @@ fn tell_watts(answer: Counted, report: &mut [u64; 6], at: &mut [u64; 1]) -> u32
             *at = [0];
             0
         }
-        Counted::Refused { number, at: place } => {
-            *at = [place];
+        Counted::Refused { number, at: named } => {
+            *at = [named];
             number
         }
     }

@@ -45,7 +45,7 @@ fn triangle(fd: i32) -> Check {
     if !input::fill_numbers(fd, &mut ray) {
         return Check::Cut;
     }
-    let mut numbers = [0.0; 7];
+    let mut numbers = [0.0; 9];
     room::numbers(&mut numbers);
     let answer = pigeonmast::pigeonmast_triangle(&triangle, &ray, &mut numbers);
     compare::same_word(fd, answer).and(compare::same_hit(fd, &numbers))
@@ -266,7 +266,7 @@ fn walk_ray(
     if !input::fill_numbers(fd, &mut ray) {
         return Check::Cut;
     }
-    let mut numbers = [0.0; 7];
+    let mut numbers = [0.0; 9];
     room::numbers(&mut numbers);
     let mut told = [0; 5];
     let answer = pigeonmast::pigeonmast_walk(

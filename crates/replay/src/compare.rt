@@ -97,7 +97,7 @@ pub fn same_times(fd: i32, times: &[f64; 2]) -> Check {
     same_numbers(fd, times, false)
 }
 
-pub fn same_hit(fd: i32, numbers: &[f64; 7]) -> Check {
+pub fn same_hit(fd: i32, numbers: &[f64; 9]) -> Check {
     same_numbers(fd, numbers, true)
 }
 

@@ -108,7 +108,11 @@ pub fn triangle(calls: &Calls, t: &[f64; 12], ray: &[f64; 6]) -> Result<bool, St
         ((calls.triangle)(t, ray, &mut numbers), numbers)
     };
     let (number, numbers) = run(calls);
-    let found = world::triangle(t).intersect(&world::ray(ray), 0);
+    let (tested, cast) = (world::triangle(t), world::ray(ray));
+    let found = tested.intersect_spotted(&cast, 0);
+    if !world::same_hit(tested.intersect(&cast, 0).as_ref(), found.as_ref()) {
+        return Err("oracle: the text with u and v does not answer as the published one".into());
+    }
     let (wanted, wanted_numbers) = match &found {
         None => (0, [-7.5; HIT_NUMBERS]),
         Some(hit) => (1 + u32::from(hit.is_front_face), world::numbers(hit)),

@@ -229,7 +229,7 @@ fn walked(
     if looped != (boxes, tests) || u64::from(sum) != 1 + boxes + tests {
         return Err("oracle: scene.rs and cost.rs count differently".into());
     }
-    if plain.as_ref().map(world::numbers) != hit.as_ref().map(world::numbers) {
+    if !world::same_hit(plain.as_ref(), hit.as_ref()) {
         return Err("oracle: the counting text does not answer as the published one".into());
     }
     let ruled = ties::walk(&ray, tree, triangles)?;

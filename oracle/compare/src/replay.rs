@@ -13,7 +13,7 @@ use reading::{Told, WALK_TOLD};
 use std::collections::BTreeMap;
 
 pub const SEED: u64 = 8_128;
-pub const MAGIC: &[u8; 8] = b"PIGEON02";
+pub const MAGIC: &[u8; 8] = b"PIGEON03";
 /// No case is longer than these, so that the reader's arrays can be fixed.
 const MOST: [usize; 4] = [1_024, 128, 1_024, 512];
 /// Nor the materials.

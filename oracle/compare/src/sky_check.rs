@@ -113,7 +113,7 @@ fn place(calls: &Calls, sky: &Sky, k: usize, times: &[f64], told: &[u64]) -> Res
     let [at, _front, boxes, tests, material] = one;
     let wanted: [u64; PLACE_TOLD] = [u64::from(number), at, boxes, tests, material];
     // A walk that is no hit leaves numbers at 0.
-    let wanted_times: [f64; PLACE_TIMES] = [numbers[0]];
+    let wanted_times: [f64; PLACE_TIMES] = [0, 7, 8].map(|k| numbers[k]);
     if told != wanted || !all(times, &wanted_times, same) {
         return Err(format!(
             "place {k} holds {times:?} {told:?}, the single walk gives {wanted_times:?} {wanted:?}"

@@ -3,14 +3,15 @@
 
 use crate::calls::{all, same};
 use crate::world::{self, Tree};
-use optics_core::{HitRecord, Ray};
+use optics_core::Ray;
 use published::counts::{intersect_blas_counted, intersect_blas_ruled};
+use published::spots::Spot;
 use published::triangle::Triangle;
 
 /// What rule E1 wants of a walk.
 #[derive(Debug)]
 pub struct Ruled {
-    pub hit: Option<HitRecord>,
+    pub hit: Option<Spot>,
     pub boxes: u64,
     pub tests: u64,
     /// Another triangle is met at the hit's t.

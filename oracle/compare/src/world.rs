@@ -1,10 +1,12 @@
 //! To the published Rust's types and back.
 
+use crate::calls::{all, same};
 use crate::Lists;
 use optics_core::{HitRecord, Ray, Vec3};
 use published::aabb::Aabb;
 use published::builder::{self, BvhNode};
 use published::ordered;
+use published::spots::Spot;
 use published::triangle::Triangle;
 use reading::{Numbers, Told};
 
@@ -57,21 +59,34 @@ pub fn bounds(n: &[f64]) -> Aabb {
     }
 }
 
-/// t, point, normal.
-pub fn numbers(hit: &HitRecord) -> Numbers {
+/// t, point, normal, u, v.
+pub fn numbers(spot: &Spot) -> Numbers {
+    let [t, px, py, pz, nx, ny, nz] = recorded(spot);
+    [t, px, py, pz, nx, ny, nz, spot.u, spot.v]
+}
+
+/// What the Rust's own record has of them.
+fn recorded(hit: &HitRecord) -> [f64; 7] {
     let (p, n) = (hit.point, hit.normal);
     [hit.t, p.x, p.y, p.z, n.x, n.y, n.z]
+}
+
+/// Whether a text that tells u and v has the hit of the published one, bit for
+/// bit, but for `surface_index`.
+pub fn same_hit(published: Option<&HitRecord>, told: Option<&Spot>) -> bool {
+    match (published, told) {
+        (None, None) => true,
+        (Some(a), Some(b)) => {
+            a.is_front_face == b.is_front_face && all(&recorded(a), &recorded(b), same)
+        }
+        _ => false,
+    }
 }
 
 /// What a walk answers and tells where the Rust has this hit or miss, whose
 /// `surface_index` is the triangle's number. The Rust's hit names no material:
 /// it is that of its triangle.
-pub fn told(
-    hit: Option<&HitRecord>,
-    triangles: &[Triangle],
-    boxes: u64,
-    tests: u64,
-) -> (u32, Told) {
+pub fn told(hit: Option<&Spot>, triangles: &[Triangle], boxes: u64, tests: u64) -> (u32, Told) {
     let Some(hit) = hit else {
         return (0, [0, 0, boxes, tests, 0]);
     };

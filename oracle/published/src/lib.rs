@@ -33,12 +33,37 @@ pub mod scene {
     }
 }
 
+/// The triangle test of triangle.rs with u and v, which its record has not.
+pub mod spots {
+    use crate::triangle::Triangle;
+    use optics_core::{HitRecord, Ray};
+    use std::ops::Deref;
+
+    #[derive(Clone, Copy, Debug, PartialEq)]
+    pub struct Spot {
+        pub hit: HitRecord,
+        pub u: f64,
+        pub v: f64,
+    }
+
+    /// So that the published text reads a hit's t as it stands.
+    impl Deref for Spot {
+        type Target = HitRecord;
+        fn deref(&self) -> &HitRecord {
+            &self.hit
+        }
+    }
+
+    include!(concat!(env!("OUT_DIR"), "/spotted.rs"));
+}
+
 /// The texts that count: from scene.rs, as it stands and with rule E1
 /// at a tie, and from cost.rs.
 pub mod counts {
     use crate::builder::BvhNode;
+    use crate::spots::Spot;
     use crate::triangle::Triangle;
-    use optics_core::{HitRecord, Ray};
+    use optics_core::Ray;
 
     include!(concat!(env!("OUT_DIR"), "/counted.rs"));
     include!(concat!(env!("OUT_DIR"), "/ruled.rs"));

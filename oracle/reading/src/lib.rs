@@ -31,12 +31,12 @@ pub const REACH: f64 = (1_u64 << 40) as f64;
 /// Normals and directions reach to 2.
 pub const DIRECTION_REACH: f64 = 2.0;
 
-/// A hit's numbers: t, point, normal.
-pub const HIT_NUMBERS: usize = 7;
+/// A hit's numbers: t, point, normal, u, v.
+pub const HIT_NUMBERS: usize = 9;
 /// What a walk tells: triangle, front, box tests, triangle tests, material.
 pub const WALK_TOLD: usize = 5;
-/// What a sky writes to times for each ray: t.
-pub const PLACE_TIMES: usize = 1;
+/// What a sky writes to times for each ray: t, u, v.
+pub const PLACE_TIMES: usize = 3;
 /// What a sky tells of each ray: outcome, triangle, box tests, triangle tests,
 /// material.
 pub const PLACE_TOLD: usize = 5;

@@ -30,7 +30,7 @@ pub fn sky(
         let answer = walk(triangles, materials, index, boxes, links, &ray);
         let (time, place): ([f64; PLACE_TIMES], [u64; PLACE_TOLD]) = match answer {
             Ok(Answer::Hit(hit, counts)) => (
-                [hit.met.numbers[0]],
+                [0, 7, 8].map(|k| hit.met.numbers[k]),
                 [
                     100,
                     u64::from(hit.triangle),
@@ -39,8 +39,14 @@ pub fn sky(
                     u64::from(hit.material),
                 ],
             ),
-            Ok(Answer::Miss(counts)) => ([0.0], [0, 0, counts.boxes, counts.triangles, 0]),
-            Err(refusal) => ([0.0], [u64::from(refusal.number), refusal.at, 0, 0, 0]),
+            Ok(Answer::Miss(counts)) => (
+                [0.0; PLACE_TIMES],
+                [0, 0, counts.boxes, counts.triangles, 0],
+            ),
+            Err(refusal) => (
+                [0.0; PLACE_TIMES],
+                [u64::from(refusal.number), refusal.at, 0, 0, 0],
+            ),
         };
         times[PLACE_TIMES * k..][..PLACE_TIMES].copy_from_slice(&time);
         told[PLACE_TOLD * k..][..PLACE_TOLD].copy_from_slice(&place);

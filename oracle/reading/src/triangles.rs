@@ -7,7 +7,7 @@ use crate::{within, Numbers, DIRECTION_REACH, REACH};
 pub type Triangle = [f64; 12];
 pub(crate) type Vec3 = [f64; 3];
 
-/// A triangle that a ray meets: t, point, normal as they are handed back.
+/// A triangle that a ray meets: t, point, normal, u, v as they are handed back.
 #[derive(Clone, Copy, Debug, PartialEq)]
 pub struct Met {
     pub numbers: Numbers,
@@ -88,7 +88,7 @@ pub fn meet(t: &Triangle, ray: &Ray) -> Option<Met> {
     let [px, py, pz] = point;
     let [nx, ny, nz] = facing;
     Some(Met {
-        numbers: [t, px, py, pz, nx, ny, nz],
+        numbers: [t, px, py, pz, nx, ny, nz, u, v],
         front,
     })
 }

@@ -21,7 +21,7 @@ fn told(answer: Result<Walk, Refusal>) -> (u32, Told, Numbers) {
             let [px, py, pz]: [f64; 3] = h.point.into();
             let [nx, ny, nz]: [f64; 3] = h.normal.into();
             let front = u64::from(h.is_front_face);
-            let numbers = [h.t, px, py, pz, nx, ny, nz];
+            let numbers = [h.t, px, py, pz, nx, ny, nz, h.u, h.v];
             let (triangle, material) = (h.triangle as u64, u64::from(h.material));
             let told = [triangle, front, counts[0], counts[1], material];
             (raw::HIT, told, numbers)
@@ -120,14 +120,14 @@ fn one(seed: u64) -> Result<u64, String> {
         .map_err(|why| format!("Bvh::sky: {why}"))?;
     let of_place = |p: Place| {
         (
-            p.hit.map(|h| (h.triangle, h.t, h.material)),
+            p.hit.map(|h| (h.triangle, h.t, h.u, h.v, h.material)),
             p.box_tests,
             p.triangle_tests,
         )
     };
     let of_walk = |w: Walk| {
         (
-            w.hit.map(|h| (h.triangle, h.t, h.material)),
+            w.hit.map(|h| (h.triangle, h.t, h.u, h.v, h.material)),
             w.box_tests,
             w.triangle_tests,
         )
