@@ -9,4 +9,9 @@ mod ReadLadder
 mod WriteLadder
 mod Exact
 mod Placing
+mod Back
+mod Runs
+pub mod Served
+pub mod ReadBack
+pub mod WriteAgain
 mod Probes
