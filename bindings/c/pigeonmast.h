@@ -73,7 +73,10 @@ enum pigeonmast_refusal {
     PIGEONMAST_TOO_MANY_PENDING = 11,      /* more than 64; at: the node opened */
     PIGEONMAST_TOO_MANY_BOX_TESTS = 12,    /* more than there are nodes; at: the next node */
     PIGEONMAST_ANSWER_ROOM = 13,           /* times or told too short */
-    PIGEONMAST_RAY_NUMBERS = 14            /* rays not in sixes */
+    PIGEONMAST_RAY_NUMBERS = 14,           /* rays not in sixes */
+    PIGEONMAST_FILE_LENGTH = 15,           /* below 84 bytes, or not 84 + 50 times the count */
+    PIGEONMAST_ROOM_TOO_SHORT = 16,        /* lent room */
+    PIGEONMAST_NOT_SINGLE = 17             /* a number that is no binary32; at: the triangle */
 };
 
 /* The form of the calls that the library has: PIGEONMAST_ABI. */
@@ -153,6 +156,26 @@ void pigeonmast_new(const double corners[9], double triangle[12]);
  * is. */
 uint32_t pigeonmast_normals(double *triangles, size_t triangles_len,
                             uint64_t told[1]);
+
+/* Reads a file of binary STL: n triangles, each number widened exactly, and a
+ * material of 0 for each. Header and attributes are not looked at. Answers 0 with
+ * told = n; room beyond 12n triangle numbers and n materials stays. Or refusal 15,
+ * 2 (at: the count), 16 (room for fewer triangles or materials) or 5 (the lowest
+ * triangle), the first in this order that applies, with told = at and both
+ * unchanged. */
+uint32_t pigeonmast_read_stl(const uint8_t *file, size_t file_len,
+                             double *triangles, size_t triangles_len,
+                             uint32_t *materials, size_t materials_len,
+                             uint64_t told[1]);
+
+/* Writes n triangles as a file of binary STL, with a zero header and zero
+ * attributes. Answers 0 with told = 84 + 50n; room beyond that many bytes stays.
+ * Or refusal 1, 2, 5, 17 (the lowest triangle with a number that is not exactly a
+ * binary32) or 16, the first in this order that applies, with told = at and the
+ * file unchanged. Read back it gives the same numbers, bit for bit. */
+uint32_t pigeonmast_write_stl(const double *triangles, size_t triangles_len,
+                              uint8_t *file, size_t file_len,
+                              uint64_t told[1]);
 
 #ifdef __cplusplus
 }

@@ -31,6 +31,9 @@
 //!
 //! [`Triangle::new`] works a normal out, [`refill_normals`] those of a whole mesh.
 //!
+//! [`read_stl`] reads a mesh from binary STL, [`write_stl`] writes one; with `_file`
+//! from a path and to one.
+//!
 //! [`raw`] has the calls of the library as they stand, over lent slices, and says
 //! what is asked of the floating-point state. A Rust program starts in it.
 //!
@@ -44,11 +47,13 @@ mod bvh;
 mod ffi;
 pub mod raw;
 mod refusal;
+mod stl;
 mod triangle;
 mod vector;
 
 pub use aabb::{ray_aabb_slab_test, Aabb};
 pub use bvh::{build_bvh, Bvh, BvhNode, Place, PlaceHit, Walk};
 pub use refusal::Refusal;
+pub use stl::{read_stl, read_stl_file, write_stl, write_stl_file, StlError};
 pub use triangle::{refill_normals, HitRecord, Triangle};
 pub use vector::{Ray, Vec3};

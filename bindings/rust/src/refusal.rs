@@ -59,6 +59,16 @@ pub enum Refusal {
     AnswerRoom,
     /// 14: the rays' numbers do not come in sixes.
     RayNumbers,
+    /// 15: the file is shorter than 84 bytes, or its length is not 84 + 50 times
+    /// its count: it is no binary STL, or it is cut.
+    FileLength,
+    /// 16: lent room is too short for what would be written.
+    RoomTooShort,
+    /// 17: a number is not exactly a binary32, as binary STL has them.
+    NotSingle {
+        /// The lowest triangle that has one.
+        triangle: u64,
+    },
     /// A number that this crate does not know: the library is newer.
     Unknown {
         /// The number.
@@ -85,6 +95,9 @@ impl Refusal {
             12 => Self::TooManyBoxTests { node: at },
             13 => Self::AnswerRoom,
             14 => Self::RayNumbers,
+            15 => Self::FileLength,
+            16 => Self::RoomTooShort,
+            17 => Self::NotSingle { triangle: at },
             _ => Self::Unknown { number, at },
         }
     }
@@ -107,6 +120,9 @@ impl Refusal {
             Self::TooManyBoxTests { .. } => 12,
             Self::AnswerRoom => 13,
             Self::RayNumbers => 14,
+            Self::FileLength => 15,
+            Self::RoomTooShort => 16,
+            Self::NotSingle { .. } => 17,
             Self::Unknown { number, .. } => *number,
         }
     }
@@ -123,6 +139,7 @@ impl Refusal {
             | Self::BadEntry { place: at }
             | Self::TooManyPending { node: at }
             | Self::TooManyBoxTests { node: at }
+            | Self::NotSingle { triangle: at }
             | Self::Unknown { at, .. } => *at,
             _ => 0,
         }
@@ -181,6 +198,16 @@ impl fmt::Display for Refusal {
             Self::RayNumbers => {
                 f.write_str("the rays' numbers do not come in sixes; give origin and direction of each")
             }
+            Self::FileLength => f.write_str(
+                "the file is not as long as its count says, so it is no binary STL, or it is cut; give 84 bytes and 50 for each triangle",
+            ),
+            Self::RoomTooShort => f.write_str(
+                "the lent room is too short; lend twelve numbers and a material for each triangle to be read, 84 bytes and 50 for each to be written",
+            ),
+            Self::NotSingle { triangle } => write!(
+                f,
+                "triangle {triangle} has a number that is not exactly a binary32, so STL would change it; round the mesh first"
+            ),
             Self::Unknown { at, .. } => {
                 write!(f, "at {at}, by a number that this crate does not know; use the crate that came with the library")
             }

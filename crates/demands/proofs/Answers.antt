@@ -12,6 +12,9 @@ use Rattle.builder.specs.Reply.{Reply, reply}
 use Rattle.sky.specs.declared.Filled.{Filled}
 use Rattle.sky.specs.declared.Filled.the-variants.{Places, Refused as Unfilled}
 use Rattle.sky.specs.Sky.{skyRefusal}
+use Rattle.stl.specs.declared.Answer.{Answer as Transfer}
+use Rattle.stl.specs.declared.Answer.the-variants.{Done as Moved, Refused as Unmoved}
+use Rattle.stl.specs.Answers.{Told, told}
 
 apart : {A : Type 0} (number at : ℕ) → none ≡ numbered number at → A
 apart number at e = absurd (let z : _≡_ {A = ℕ} 0 1 = cc in omega arith)
@@ -36,3 +39,10 @@ build-told (Tree n l) (Tree m k) e = cc (ap (λ (r : Reply). r .nodes) e, ap (λ
 build-told (Refused k i) (Refused l j) e = cc (ap (λ (r : Reply). r .refusal) e)
 build-told (Tree n l) (Refused k i) e = apart k i (ap (λ (r : Reply). r .refusal) e)
 build-told (Refused k i) (Tree n l) e = apart k i (ap (λ (r : Reply). r .refusal) (sym e))
+
+pub stl-told : (a b : Transfer) → told a ≡ told b → a ≡ b
+unfolding told
+stl-told (Moved n) (Moved m) e = cc (ap (λ (r : Told). r .count) e)
+stl-told (Unmoved k i) (Unmoved l j) e = cc (ap (λ (r : Told). r .refusal) e)
+stl-told (Moved n) (Unmoved k i) e = apart k i (ap (λ (r : Told). r .refusal) e)
+stl-told (Unmoved k i) (Moved n) e = apart k i (ap (λ (r : Told). r .refusal) (sym e))

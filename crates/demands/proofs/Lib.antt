@@ -8,3 +8,4 @@ pub mod SameHit
 pub mod Demand
 pub mod Sky
 pub mod Surveying
+pub mod FromFile

@@ -6,3 +6,4 @@ pub mod SameLeaves
 pub mod Demand
 pub mod Sky
 pub mod Survey
+pub mod Stl

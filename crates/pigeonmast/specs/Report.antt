@@ -1,4 +1,4 @@
--- What each exported call answers and leaves in the lent arrays (rules X1 to X6), as the comment at the call says (src/lib.rt). Definitions only.
+-- What each exported call answers and leaves in the lent arrays (rules X1 to X7), as the comment at the call says (src/lib.rt). Definitions only.
 use Prim.Native.Nat.{ℕ}
 use mathlib.Core.Bool.{cond}
 use mathlib.Core.List.{List, [], _∷_}
@@ -15,6 +15,7 @@ use Rattle.builder.specs.Build.{Outcome}
 use Rattle.lent.specs.Ladder.{Refusal, none, numbered}
 use Rattle.walk.specs.Answer.{Told}
 use Rattle.sky.specs.Sky.{Filling}
+use Rattle.stl.specs.Answers.{Told as StlTold, Read, Written}
 
 -- ---- pigeonmast_abi (rule X5)
 -- the number of the calls' form, PIGEONMAST_ABI of the C header
@@ -140,3 +141,37 @@ normals answer told triangles = record { answer = answer; told = told; triangles
 -- 0, or the refusal number with its at
 unfoldable pub normalsReport : Refilling → Normals
 normalsReport o = normals (refusalNumber (o .refusal)) (refusalAt (o .refusal) ∷ []) (o .mesh)
+
+-- ---- pigeonmast_read_stl and pigeonmast_write_stl (rule X7)
+-- told = how many triangles or bytes; or told = at
+unfoldable pub howMany : Refusal → ℕ → List ℕ
+howMany none count = count ∷ []
+howMany (numbered number at) count = at ∷ []
+
+unfoldable pub stlTold : StlTold → List ℕ
+stlTold a = howMany (a .refusal) (a .count)
+
+-- the number, and what told, the triangles and the materials hold at the end
+pub record StlRead : Type 0 where
+  pub answer : ℕ
+  pub told : List ℕ
+  pub triangles : List Float
+  pub materials : List ℕ
+
+abbrev pub stlRead : ℕ → List ℕ → List Float → List ℕ → StlRead
+stlRead answer told triangles materials = record { answer = answer; told = told; triangles = triangles; materials = materials }
+
+unfoldable pub readReport : Read → StlRead
+readReport o = stlRead (refusalNumber (o .answer .refusal)) (stlTold (o .answer)) (o .triangles) (o .materials)
+
+-- the number, and what told and the file hold at the end
+pub record StlWritten : Type 0 where
+  pub answer : ℕ
+  pub told : List ℕ
+  pub file : List ℕ
+
+abbrev pub stlWritten : ℕ → List ℕ → List ℕ → StlWritten
+stlWritten answer told file = record { answer = answer; told = told; file = file }
+
+unfoldable pub writeReport : Written → StlWritten
+writeReport o = stlWritten (refusalNumber (o .answer .refusal)) (stlTold (o .answer)) (o .file)

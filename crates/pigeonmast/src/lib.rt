@@ -28,7 +28,10 @@ ghost use Rattle.tree.specs.Lent.{lent};
 ghost use Rattle.walk.specs.Answer.{told as answered};
 ghost use Rattle.walk.specs.Walk as scene;
 ghost use Rattle.sky.specs.Sky.{skyRefusal, sky as filled};
-ghost use Rattle.pigeonmast.specs.Report.{abi, hitNumbers, frontNumber, sideNumber, refusalNumber, refusalAt, build, buildTold, buildReport, walk, walked, sky, skyReport, test, slabReport, triangleReport, triangleNumbers, normals, normalsReport};
+ghost use Rattle.stl.specs.Answers.{told as stlAnswered};
+ghost use Rattle.stl.specs.Reading.{readStl};
+ghost use Rattle.stl.specs.Writing.{writeStl};
+ghost use Rattle.pigeonmast.specs.Report.{abi, hitNumbers, frontNumber, sideNumber, refusalNumber, refusalAt, build, buildTold, buildReport, walk, walked, sky, skyReport, test, slabReport, triangleReport, triangleNumbers, normals, normalsReport, stlTold, stlRead, readReport, stlWritten, writeReport};
 
 // A hit's seven numbers: t, point, normal.
 fn hit_numbers(hit: Hit) -> [f64; 7]
@@ -295,4 +298,50 @@ pub extern "C" fn pigeonmast_normals(triangles: &mut [f64], told: &mut [u64; 1])
 {
     let answer = triangle::refill_normals(triangles);
     tell_normals(answer, told)
+}
+
+// What a reading or a writing of STL answered: 0 or the refusal number, with `told` written.
+fn tell_stl(answer: stl::Answer, told: &mut [u64; 1]) -> u32
+    ensures { λ r. ⌜ r ≡ refusalNumber (stlAnswered answer .refusal) ⌝ }
+    ensures { λ _. ⌜ now (told .exit) ≡ stlTold (stlAnswered answer) ⌝ }
+{
+    match answer {
+        stl::Answer::Done(count) => {
+            *told = [count as u64];
+            0
+        }
+        stl::Answer::Refused { number, at } => {
+            *told = [at as u64];
+            number
+        }
+    }
+}
+
+// Reads a file of binary STL into the lent triangles (twelve numbers each) and materials (a 0 each). 0 and told = how many triangles; room beyond them stays. Or
+// refusal 15, 2, 16 or 5 (`stl::read`) with told = at, and triangles and materials unchanged.
+#[no_mangle]
+pub extern "C" fn pigeonmast_read_stl(
+    file: &[u8],
+    triangles: &mut [f64],
+    materials: &mut [u32],
+    told: &mut [u64; 1],
+) -> u32
+    ensures { λ r. ⌜ stlRead r (now (told .exit)) (now (triangles .exit)) (now (materials .exit)) ≡ readReport (readStl (now (file .entry)) (now (triangles .entry)) (now (materials .entry))) ⌝ }
+{
+    let answer = stl::read(file, triangles, materials);
+    tell_stl(answer, told)
+}
+
+// Writes the triangles (twelve numbers each) as a file of binary STL into the lent bytes. 0 and told = how many bytes; room beyond them stays. Or refusal 1, 2, 5,
+// 17 or 16 (`stl::write`) with told = at, and the file unchanged.
+#[no_mangle]
+pub extern "C" fn pigeonmast_write_stl(
+    triangles: &[f64],
+    file: &mut [u8],
+    told: &mut [u64; 1],
+) -> u32
+    ensures { λ r. ⌜ stlWritten r (now (told .exit)) (now (file .exit)) ≡ writeReport (writeStl (now (triangles .entry)) (now (file .entry))) ⌝ }
+{
+    let answer = stl::write(triangles, file);
+    tell_stl(answer, told)
 }

@@ -16,6 +16,8 @@ pub struct Calls {
     pub root: fn(f64) -> f64,
     pub new: fn(&[f64; 9], &mut [f64; 12]),
     pub normals: fn(&mut [f64], &mut [u64; 1]) -> u32,
+    pub read_stl: fn(&[u8], &mut [f64], &mut [u32], &mut [u64; 1]) -> u32,
+    pub write_stl: fn(&[f64], &mut [u8], &mut [u64; 1]) -> u32,
 }
 
 pub const READING: Calls = Calls {
@@ -27,6 +29,8 @@ pub const READING: Calls = Calls {
     root: f64::sqrt,
     new: reading::calls::new,
     normals: reading::calls::normals,
+    read_stl: reading::calls::read_stl,
+    write_stl: reading::calls::write_stl,
 };
 
 /// Equal bit for bit; two NaNs count as one.

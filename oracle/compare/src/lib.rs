@@ -16,6 +16,7 @@ pub mod root_check;
 pub mod run;
 pub mod show;
 pub mod sky_check;
+pub mod stl_check;
 pub mod ties;
 pub mod world;
 

@@ -1,7 +1,8 @@
 //! The reading behind the boundary of the exported calls.
 
 use crate::walk::Answer;
-use crate::{boxes, builder, normals as refill, sky as skies, triangles, walk as walker};
+use crate::Refusal;
+use crate::{boxes, builder, normals as refill, sky as skies, stl, triangles, walk as walker};
 
 pub fn build(
     triangles: &[f64],
@@ -101,4 +102,26 @@ pub fn normals(triangles: &mut [f64], told: &mut [u64; 1]) -> u32 {
     };
     *told = [at];
     number
+}
+
+fn told_of(answer: Result<usize, Refusal>, told: &mut [u64; 1]) -> u32 {
+    let (number, value) = match answer {
+        Ok(count) => (0, count as u64),
+        Err(refusal) => (refusal.number, refusal.at),
+    };
+    *told = [value];
+    number
+}
+
+pub fn read_stl(
+    file: &[u8],
+    triangles: &mut [f64],
+    materials: &mut [u32],
+    told: &mut [u64; 1],
+) -> u32 {
+    told_of(stl::read(file, triangles, materials), told)
+}
+
+pub fn write_stl(triangles: &[f64], file: &mut [u8], told: &mut [u64; 1]) -> u32 {
+    told_of(stl::write(triangles, file), told)
 }

@@ -13,6 +13,7 @@ pub mod calls;
 pub mod normals;
 pub mod sky;
 pub mod split;
+pub mod stl;
 pub mod triangles;
 pub mod walk;
 

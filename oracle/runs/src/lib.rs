@@ -14,6 +14,8 @@ pub const PIGEONMAST: Calls = Calls {
     root: raw::root,
     new: raw::new,
     normals: raw::normals,
+    read_stl: raw::read_stl,
+    write_stl: raw::write_stl,
 };
 
 /// A clear line, and the status of bad usage.
