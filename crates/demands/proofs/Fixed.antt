@@ -95,9 +95,6 @@ use Rattle.triangle.proofs.refill_normals.Reads as triangle-refill-normals
 use Rattle.builder.proofs.build.Reads as builder-build
 use Rattle.walk.proofs.walk.Reads as walk-walk
 use Rattle.sky.proofs.sky.Reads as sky-sky
-use Rattle.stl.proofs.open.Reads as stl-open
-use Rattle.stl.proofs.moved.Reads as stl-moved
-use Rattle.stl.proofs.read_on.Reads as stl-read-on
 use Rattle.stl.proofs.read.Reads as stl-read
 use Rattle.stl.proofs.write.Reads as stl-write
 
@@ -154,19 +151,9 @@ sky-same a b x y k l e = let t = sky-told a b (ap (λ (o : Filling). o .refusal)
 pub sky-fixed : FixesAll sky-sky.Post {C = Filled × List Float × List ℕ} (λ κs r e. (r, e .1 .1 .1 .1 .1 .0 .now, e .1 .1 .1 .1 .1 .1 .0 .now))
 sky-fixed κs x r r' e e' p q = sky-same r r' _ _ _ _ (p ∙ sym q)
 
--- the reader: the file and the place
-pub reader-fixed : Fixes stl-open.Post × Fixes stl-moved.Post
-reader-fixed = (
-  record { same = λ κs x r r' e e' p q i. record { file = (p .0 ∙ sym (q .0)) i; at = (p .1 ∙ sym (q .1)) i } },
-  record { same = λ κs x r r' e e' p q i. record { file = (p .0 ∙ sym (q .0)) i; at = (p .1 ∙ sym (q .1)) i } },
-)
-
 -- the answer, and the triangle and material rooms at the end
 read-same : (a b : Transfer) (x y : List Float) (k l : List ℕ) → read-as (stlTold a) x k ≡ read-as (stlTold b) y l → _≡_ {A = Transfer × List Float × List ℕ} (a, x, k) (b, y, l)
 read-same a b x y k l e = let t = stl-told a b (ap (λ (o : Read). o .answer) e) in λ z. (t z, e z .triangles, e z .materials)
-
-pub read-on-fixed : FixesAll stl-read-on.Post {C = Transfer × List Float × List ℕ} (λ κs r e. (r, e .1 .0 .now, e .1 .1 .0 .now))
-read-on-fixed κs x r r' e e' p q = read-same r r' _ _ _ _ (p ∙ sym q)
 
 pub read-fixed : FixesAll stl-read.Post {C = Transfer × List Float × List ℕ} (λ κs r e. (r, e .1 .0 .now, e .1 .1 .0 .now))
 read-fixed κs x r r' e e' p q = read-same r r' _ _ _ _ (p ∙ sym q)

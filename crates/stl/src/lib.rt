@@ -20,20 +20,20 @@ pub enum Answer {
 }
 
 // A reader: it keeps the lent file and its place.
-pub struct StlReader<'a> {
+struct StlReader<'a> {
     pub file: &'a [u8],
     pub at: usize,
 }
 
 // A reader of a file, at its start.
-pub fn open<'a>(file: &'a [u8]) -> StlReader<'a>
+fn open<'a>(file: &'a [u8]) -> StlReader<'a>
     ensures { λ r. ⌜ (r .file ≡ file .entry) × (r .at ≡ 0) ⌝ }
 {
     StlReader { file, at: 0 }
 }
 
 // The reader of the same file at another place.
-pub fn moved<'a>(reader: StlReader<'a>, at: usize) -> StlReader<'a>
+fn moved<'a>(reader: StlReader<'a>, at: usize) -> StlReader<'a>
     ensures { λ r. ⌜ (r .file ≡ reader .entry .file) × (r .at ≡ at) ⌝ }
 {
     StlReader {
@@ -43,7 +43,7 @@ pub fn moved<'a>(reader: StlReader<'a>, at: usize) -> StlReader<'a>
 }
 
 // The count at the reader's place and the triangles behind it, into the lent rooms, as `read` does.
-pub fn read_on<'a, 'b, 'c>(
+fn read_on<'a, 'b, 'c>(
     reader: StlReader<'a>,
     triangles: &'b mut [f64],
     materials: &'c mut [u32],

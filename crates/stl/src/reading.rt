@@ -32,12 +32,12 @@ pub fn read_from(file: &[u8], at: usize, triangles: &mut [f64], materials: &mut 
     if length - first != 50 * n {
         return Answer::Refused { number: 15, at: 0 };
     }
+    let numbers = 12 * n;
     if lent::MOST_TRIANGLES < n {
         return Answer::Refused { number: 2, at: n };
     }
-    let numbers = 12 * n;
     if triangles.len() < numbers {
-        return Answer::Refused { number: 16, at: 0 };
+        return Answer::Refused { number: 16, at: 0 }; // room for triangles
     }
     if materials.len() < n {
         return Answer::Refused { number: 16, at: 0 };

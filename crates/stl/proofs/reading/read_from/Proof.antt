@@ -49,6 +49,9 @@ returns-3 c =
     let n = w .word .result in
     counted (a .file .now) (a .at) n (a .triangles .now) (a .materials .now) _ (w .word .ensures) (other-length (a .file .now) (a .at) n (a .triangles .now) (a .materials .now) (omega (arith, w .before .if2 .left, w .before .before .if1 .left)) (λ e. c .if3 .taken (omega (arith, e))))
 
+mul-numbers : tie.Need-mul-numbers
+mul-numbers c = search needs
+
 returns-4 : tie.Need-returns-4
 unfolding told
 returns-4 c =
@@ -56,9 +59,6 @@ returns-4 c =
     let a = w .before .before .before .before .before .before .args in
     let n = w .word .result in
     counted (a .file .now) (a .at) n (a .triangles .now) (a .materials .now) _ (w .word .ensures) (too-many (a .file .now) (a .at) n (a .triangles .now) (a .materials .now) (omega (arith, c .before .if3 .left, w .before .if2 .left, w .before .before .if1 .left)) (c .if4 .taken))
-
-mul-numbers : tie.Need-mul-numbers
-mul-numbers c = search needs
 
 returns-5 : tie.Need-returns-5
 unfolding told
@@ -156,8 +156,8 @@ read-from-spec =
     sub-if3
     mul-if3
     returns-3
-    returns-4
     mul-numbers
+    returns-4
     returns-5
     returns-6
     first-refused-requires
