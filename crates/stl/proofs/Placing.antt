@@ -33,9 +33,6 @@ unfolding recordOf vectorBytes narrowed bytesOf
 record-length t = refl
 
 -- ---- parts of room of a known length
-pub kept : (a e m : ℕ) (xs ys : List ℕ) → e ≤ m → length xs ≡ m → length ys ≡ e - a → length (putMid a (e - a) xs ys) ≡ m
-kept a e m xs ys h l k = part-length a e xs ys (subst (λ (z : ℕ). e ≤ z) (sym l) h) k ∙ l
-
 pub mid-is : (a e m : ℕ) (xs : List ℕ) → e ≤ m → length xs ≡ m → length (take (e - a) (drop a xs)) ≡ e - a
 mid-is a e m xs h l = mid-len a e xs (subst (λ (z : ℕ). e ≤ z) (sym l) h)
 
@@ -48,10 +45,10 @@ vector-long ys a e = ap length e ∙ vector-length a
 pub word-long : (ys : List ℕ) (w : ℕ) → ys ≡ bytesOf w → length ys ≡ 4
 word-long ys w e = ap length e ∙ bytes-length w
 
-pub last-store : (xs : List ℕ) → length xs ≡ 50 → 49 < length (set xs 48 0)
+last-store : (xs : List ℕ) → length xs ≡ 50 → 49 < length (set xs 48 0)
 last-store xs l = simp length-set (omega arith)
 
-pub both-stores : (xs : List ℕ) → length xs ≡ 50 → length (set (set xs 48 0) 49 0) ≡ 50
+both-stores : (xs : List ℕ) → length xs ≡ 50 → length (set (set xs 48 0) 49 0) ≡ 50
 both-stores xs l = simp length-set l
 
 -- ---- four bytes
@@ -61,79 +58,95 @@ word-is out w a b c d n pa pb pc pd =
     sets-eq (a ∷ b ∷ c ∷ d ∷ []) out 0 (omega arith) ∙ (ap (λ (r : List ℕ). a ∷ b ∷ c ∷ d ∷ r) (drop-of-length-le out {i = 4} (omega arith)) ∙ rw (pa, pb, pc, pd))
 
 -- ---- three numbers
-module _ (out x y z : List ℕ) (n : length out ≡ 12) (lx : length x ≡ 4) (ly : length y ≡ 4) (lz : length z ≡ 4) where
+module _ (out x : List ℕ) (n : length out ≡ 12) (lx : length x ≡ 4) where
   abbrev v1 : List ℕ
   v1 = putMid 0 4 out x
-
-  abbrev v2 : List ℕ
-  v2 = putMid 4 4 v1 y
-
-  abbrev v3 : List ℕ
-  v3 = putMid 8 4 v2 z
 
   pub length-v1 : length v1 ≡ 12
   length-v1 = part-length 0 4 out x (omega arith) lx ∙ n
 
-  pub length-v2 : length v2 ≡ 12
-  length-v2 = part-length 4 8 v1 y (omega (arith, length-v1)) ly ∙ length-v1
+  module _ (y : List ℕ) (ly : length y ≡ 4) where
+    abbrev v2 : List ℕ
+    v2 = putMid 4 4 v1 y
 
-  pub length-v3 : length v3 ≡ 12
-  length-v3 = part-length 8 12 v2 z (omega (arith, length-v2)) lz ∙ length-v2
+    pub length-v2 : length v2 ≡ 12
+    length-v2 = part-length 4 8 v1 y (omega (arith, length-v1)) ly ∙ length-v1
 
-  pub three-are : v3 ≡ x ++ (y ++ z)
-  three-are =
-      let m1 : take 4 v1 ≡ x = part-more 0 4 out x [] (omega arith) (omega arith) lx refl in
-      let m2 : take 8 v2 ≡ x ++ y = part-more 4 8 v1 y x (omega arith) (omega (arith, length-v1)) ly m1 in
-      let m3 : take 12 v3 ≡ (x ++ y) ++ z = part-more 8 12 v2 z (x ++ y) (omega arith) (omega (arith, length-v2)) lz m2 in
-      sym (take-all 12 v3 (omega (arith, length-v3))) ∙ (m3 ∙ append-assoc x y z)
+    module _ (z : List ℕ) (lz : length z ≡ 4) where
+      abbrev v3 : List ℕ
+      v3 = putMid 8 4 v2 z
+
+      pub length-v3 : length v3 ≡ 12
+      length-v3 = part-length 8 12 v2 z (omega (arith, length-v2)) lz ∙ length-v2
+
+      three-are : v3 ≡ x ++ (y ++ z)
+      three-are =
+          let m1 : take 4 v1 ≡ x = part-more 0 4 out x [] (omega arith) (omega arith) lx refl in
+          let m2 : take 8 v2 ≡ x ++ y = part-more 4 8 v1 y x (omega arith) (omega (arith, length-v1)) ly m1 in
+          let m3 : take 12 v3 ≡ (x ++ y) ++ z = part-more 8 12 v2 z (x ++ y) (omega arith) (omega (arith, length-v2)) lz m2 in
+          sym (take-all 12 v3 (omega (arith, length-v3))) ∙ (m3 ∙ append-assoc x y z)
 
 pub vector-is : (out x y z : List ℕ) (a : Vec3) → length out ≡ 12 → x ≡ narrowed (a .x) → y ≡ narrowed (a .y) → z ≡ narrowed (a .z) → putMid 8 4 (putMid 4 4 (putMid 0 4 out x) y) z ≡ vectorBytes a
 unfolding vectorBytes
 vector-is out x y z a n px py pz =
-    three-are out x y z n (ap length px ∙ number-length (a .x)) (ap length py ∙ number-length (a .y)) (ap length pz ∙ number-length (a .z)) ∙ rw (px, py, pz)
+    three-are out x n (number-long x (a .x) px) y (number-long y (a .y) py) z (number-long z (a .z) pz) ∙ rw (px, py, pz)
 
 -- ---- four vectors and two bytes
-module _ (out p q r s : List ℕ) (n : length out ≡ 50) (lp : length p ≡ 12) (lq : length q ≡ 12) (lr : length r ≡ 12) (ls : length s ≡ 12) where
+module _ (out p : List ℕ) (n : length out ≡ 50) (lp : length p ≡ 12) where
   abbrev t1 : List ℕ
   t1 = putMid 0 12 out p
-
-  abbrev t2 : List ℕ
-  t2 = putMid 12 12 t1 q
-
-  abbrev t3 : List ℕ
-  t3 = putMid 24 12 t2 r
-
-  abbrev t4 : List ℕ
-  t4 = putMid 36 12 t3 s
 
   pub length-t1 : length t1 ≡ 50
   length-t1 = part-length 0 12 out p (omega arith) lp ∙ n
 
-  pub length-t2 : length t2 ≡ 50
-  length-t2 = part-length 12 24 t1 q (omega (arith, length-t1)) lq ∙ length-t1
+  module _ (q : List ℕ) (lq : length q ≡ 12) where
+    abbrev t2 : List ℕ
+    t2 = putMid 12 12 t1 q
 
-  pub length-t3 : length t3 ≡ 50
-  length-t3 = part-length 24 36 t2 r (omega (arith, length-t2)) lr ∙ length-t2
+    pub length-t2 : length t2 ≡ 50
+    length-t2 = part-length 12 24 t1 q (omega (arith, length-t1)) lq ∙ length-t1
 
-  pub length-t4 : length t4 ≡ 50
-  length-t4 = part-length 36 48 t3 s (omega (arith, length-t3)) ls ∙ length-t3
+    module _ (r : List ℕ) (lr : length r ≡ 12) where
+      abbrev t3 : List ℕ
+      t3 = putMid 24 12 t2 r
 
-  pub four-are : set (set t4 48 0) 49 0 ≡ p ++ (q ++ (r ++ (s ++ (0 ∷ (0 ∷ [])))))
-  four-are =
-      let m1 : take 12 t1 ≡ p = part-more 0 12 out p [] (omega arith) (omega arith) lp refl in
-      let m2 : take 24 t2 ≡ p ++ q = part-more 12 24 t1 q p (omega arith) (omega (arith, length-t1)) lq m1 in
-      let m3 : take 36 t3 ≡ (p ++ q) ++ r = part-more 24 36 t2 r (p ++ q) (omega arith) (omega (arith, length-t2)) lr m2 in
-      let m4 : take 48 t4 ≡ ((p ++ q) ++ r) ++ s = part-more 36 48 t3 s ((p ++ q) ++ r) (omega arith) (omega (arith, length-t3)) ls m3 in
-      sets-eq (0 ∷ 0 ∷ []) t4 48 (omega (arith, length-t4))
-      ∙ (ap (λ (z : List ℕ). (take 48 t4 ++ (0 ∷ (0 ∷ []))) ++ z) (drop-of-length-le t4 {i = 48 + length {A = ℕ} (0 ∷ 0 ∷ [])} (omega (arith, length-t4)))
-      ∙ (ap (λ (z : List ℕ). (z ++ (0 ∷ (0 ∷ []))) ++ []) m4
-      ∙ simp append-assoc))
+      pub length-t3 : length t3 ≡ 50
+      length-t3 = part-length 24 36 t2 r (omega (arith, length-t2)) lr ∙ length-t2
 
-pub record-is : (out p q r s : List ℕ) (t : Triangle) → length out ≡ 50 → p ≡ vectorBytes (t .normal) → q ≡ vectorBytes (t .v0) → r ≡ vectorBytes (t .v1) → s ≡ vectorBytes (t .v2)
-    → set (set (putMid 36 12 (putMid 24 12 (putMid 12 12 (putMid 0 12 out p) q) r) s) 48 0) 49 0 ≡ recordOf t
-unfolding recordOf
-record-is out p q r s t n pp pq pr ps =
-    four-are out p q r s n (ap length pp ∙ vector-length (t .normal)) (ap length pq ∙ vector-length (t .v0)) (ap length pr ∙ vector-length (t .v1)) (ap length ps ∙ vector-length (t .v2)) ∙ rw (pp, pq, pr, ps)
+      module _ (s : List ℕ) (ls : length s ≡ 12) where
+        abbrev t4 : List ℕ
+        t4 = putMid 36 12 t3 s
+
+        pub length-t4 : length t4 ≡ 50
+        length-t4 = part-length 36 48 t3 s (omega (arith, length-t3)) ls ∙ length-t3
+
+        four-are : set (set t4 48 0) 49 0 ≡ p ++ (q ++ (r ++ (s ++ (0 ∷ (0 ∷ [])))))
+        four-are =
+            let m1 : take 12 t1 ≡ p = part-more 0 12 out p [] (omega arith) (omega arith) lp refl in
+            let m2 : take 24 t2 ≡ p ++ q = part-more 12 24 t1 q p (omega arith) (omega (arith, length-t1)) lq m1 in
+            let m3 : take 36 t3 ≡ (p ++ q) ++ r = part-more 24 36 t2 r (p ++ q) (omega arith) (omega (arith, length-t2)) lr m2 in
+            let m4 : take 48 t4 ≡ ((p ++ q) ++ r) ++ s = part-more 36 48 t3 s ((p ++ q) ++ r) (omega arith) (omega (arith, length-t3)) ls m3 in
+            sets-eq (0 ∷ 0 ∷ []) t4 48 (omega (arith, length-t4))
+            ∙ (ap (λ (z : List ℕ). (take 48 t4 ++ (0 ∷ (0 ∷ []))) ++ z) (drop-of-length-le t4 {i = 48 + length {A = ℕ} (0 ∷ 0 ∷ [])} (omega (arith, length-t4)))
+            ∙ (ap (λ (z : List ℕ). (z ++ (0 ∷ (0 ∷ []))) ++ []) m4
+            ∙ simp append-assoc))
+
+module _ (out p q r s : List ℕ) (t : Triangle) (n : length out ≡ 50) (pp : p ≡ vectorBytes (t .normal)) (pq : q ≡ vectorBytes (t .v0)) (pr : r ≡ vectorBytes (t .v1)) (ps : s ≡ vectorBytes (t .v2)) where
+  abbrev placed : List ℕ
+  placed = putMid 36 12 (putMid 24 12 (putMid 12 12 (putMid 0 12 out p) q) r) s
+
+  pub placed-length : length placed ≡ 50
+  placed-length = length-t4 out p n (vector-long p (t .normal) pp) q (vector-long q (t .v0) pq) r (vector-long r (t .v1) pr) s (vector-long s (t .v2) ps)
+
+  pub placed-last : 49 < length (set placed 48 0)
+  placed-last = last-store placed placed-length
+
+  pub placed-both : length (set (set placed 48 0) 49 0) ≡ 50
+  placed-both = both-stores placed placed-length
+
+  pub record-is : set (set placed 48 0) 49 0 ≡ recordOf t
+  unfolding recordOf
+  record-is = four-are out p n (vector-long p (t .normal) pp) q (vector-long q (t .v0) pq) r (vector-long r (t .v1) pr) s (vector-long s (t .v2) ps) ∙ rw (pp, pq, pr, ps)
 
 -- ---- n triangles
 module _ (mesh : List Float) where

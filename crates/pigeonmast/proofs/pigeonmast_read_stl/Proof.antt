@@ -15,22 +15,12 @@ reported : (a : Told) (triangles : List Float) (materials : List ℕ) (o : Read)
 unfolding readReport
 reported a triangles materials o n told e p q = rw (← e, p, q)
 
-read-requires : tie.Need-read-requires
-read-requires c κs = search needs
-
-tell-stl-requires : tie.Need-tell-stl-requires
-tell-stl-requires c κs = search needs
-
-same-length : tie.Need-same-length
-same-length c = search needs
-
-same-length-2 : tie.Need-same-length-2
-same-length-2 c = search needs
-
 returns : tie.Need-returns
 returns c = reported _ _ _ _ _ _ (c .before .before .before .before .before .before .read .ensures) (c .tell-stl .ensures .0) (c .tell-stl .ensures .1)
 
 pub pigeonmast-read-stl-spec : {M : Type 1} → statement M
 pigeonmast-read-stl-spec =
     tie.close
-    (tie.spec read-requires tell-stl-requires same-length same-length-2 returns)
+    (tie.spec
+    (λ c κs. search needs) (λ c κs. search needs) (λ c. search needs) (λ c. search needs)
+    returns)

@@ -14,17 +14,12 @@ reported : (a : Told) (file : List ℕ) (o : Written) (n : ℕ) (told : List ℕ
 unfolding writeReport
 reported a file o n told e p q = rw (← e, p, q)
 
-write-requires : tie.Need-write-requires
-write-requires c κs = search needs
-
-tell-stl-requires : tie.Need-tell-stl-requires
-tell-stl-requires c κs = search needs
-
-same-length : tie.Need-same-length
-same-length c = search needs
-
 returns : tie.Need-returns
 returns c = reported _ _ _ _ _ (c .before .before .before .before .write .ensures) (c .tell-stl .ensures .0) (c .tell-stl .ensures .1)
 
 pub pigeonmast-write-stl-spec : {M : Type 1} → statement M
-pigeonmast-write-stl-spec = tie.close (tie.spec write-requires tell-stl-requires same-length returns)
+pigeonmast-write-stl-spec =
+    tie.close
+    (tie.spec
+    (λ c κs. search needs) (λ c κs. search needs) (λ c. search needs)
+    returns)

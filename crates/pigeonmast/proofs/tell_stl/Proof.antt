@@ -5,12 +5,6 @@ use borrow.Author.Needs.{needs}
 use Rattle.pigeonmast.proofs.tell_stl.Statement.{statement}
 use Rattle.pigeonmast.proofs.tell_stl.Tie as tie
 
-enum-known-answer : tie.Need-enum-known-answer
-enum-known-answer c = search needs
-
-enum-known-answer-2 : tie.Need-enum-known-answer-2
-enum-known-answer-2 c = search needs
-
 returns : tie.Need-returns
 unfolding told refusalNumber howMany stlTold
 returns c = (rw (c .before .before .answer .given .1), rw (c .before .before .answer .given .1))
@@ -20,4 +14,4 @@ unfolding told refusalNumber howMany stlTold
 returns-2 c = (rw (c .before .before .answer2 .given .1), rw (c .before .before .answer2 .given .1))
 
 pub tell-stl-spec : {M : Type 1} → statement M
-tell-stl-spec = tie.close (tie.spec enum-known-answer enum-known-answer-2 returns returns-2)
+tell-stl-spec = tie.close (tie.spec (λ c. search needs) (λ c. search needs) returns returns-2)

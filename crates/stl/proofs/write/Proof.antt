@@ -25,24 +25,12 @@ returns-2 c =
     let a = c .before .before .before .before .args in
     too-many (a .triangles .now) (a .file .now) (c .before .if1 .left) (c .if2 .taken)
 
-first-refused-requires : tie.Need-first-refused-requires
-first-refused-requires c κs = search needs
-
-enum-known-bad : tie.Need-enum-known-bad
-enum-known-bad c = search needs
-
 returns-3 : tie.Need-returns-3
 unfolding told
 returns-3 c =
     let f = c .before .before .before in
     let a = f .before .before .before .before .before .args in
     unfit (a .triangles .now) (a .file .now) (f .before .before .if1 .left) (f .before .if2 .left) (f .first-refused .result) (f .first-refused .ensures) (c .before .bad .given .0 .0) (c .before .bad .given .1)
-
-enum-told : tie.Need-enum-told
-enum-told c = search needs
-
-first-inexact-requires : tie.Need-first-inexact-requires
-first-inexact-requires c κs = search needs
 
 returns-4 : tie.Need-returns-4
 unfolding told
@@ -51,27 +39,12 @@ returns-4 c =
     let a = f .before .before .before .before .before .args in
     not-exact (a .triangles .now) (a .file .now) (f .before .before .if1 .left) (f .before .if2 .left) (f .first-refused .result) (f .first-refused .ensures) (c .before .before .enum-told .given .1) (c .before .first-inexact .result) (c .before .first-inexact .ensures) (c .if3 .taken)
 
-mul-whole : tie.Need-mul-whole
-mul-whole c = search needs
-
-add-whole : tie.Need-add-whole
-add-whole c = search needs
-
 returns-5 : tie.Need-returns-5
 unfolding told
 returns-5 c =
     let f = c .before .before .before .before .before in
     let a = f .before .before .before .before .before .args in
     room (a .triangles .now) (a .file .now) (f .before .before .if1 .left) (f .before .if2 .left) (f .first-refused .result) (f .first-refused .ensures) (c .before .before .before .enum-told .given .1) (c .before .before .first-inexact .result) (c .before .before .first-inexact .ensures) (c .before .if3 .left) (c .if4 .taken)
-
-sub-put-file : tie.Need-sub-put-file
-sub-put-file c = search needs
-
-part-put-file-start : tie.Need-part-put-file-start
-part-put-file-start c = search needs
-
-part-put-file-end : tie.Need-part-put-file-end
-part-put-file-end c = search needs
 
 put-file-requires : tie.Need-put-file-requires
 put-file-requires c κs =
@@ -82,9 +55,6 @@ put-file-requires c κs =
       length-take-le (84 + 50 * n - 0) (a .file .now) (omega (arith, c .before .if4 .left)) ∙ omega arith,
       λ j h. all-exact (a .triangles .now) n 0 (omega (arith, c .before .before .if3 .left, c .before .before .before .first-inexact .ensures)) j (omega arith) (omega (arith, h)),
     )
-
-same-length : tie.Need-same-length
-same-length c = search needs
 
 returns-6 : tie.Need-returns-6
 unfolding told
@@ -100,18 +70,13 @@ write-spec =
     (tie.spec
     returns
     returns-2
-    first-refused-requires
-    enum-known-bad
+    (λ c κs. search needs) (λ c. search needs)
     returns-3
-    enum-told
-    first-inexact-requires
+    (λ c. search needs) (λ c κs. search needs)
     returns-4
-    mul-whole
-    add-whole
+    (λ c. search needs) (λ c. search needs)
     returns-5
-    sub-put-file
-    part-put-file-start
-    part-put-file-end
+    (λ c. search needs) (λ c. search needs) (λ c. search needs)
     put-file-requires
-    same-length
+    (λ c. search needs)
     returns-6)

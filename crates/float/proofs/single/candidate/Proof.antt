@@ -5,23 +5,8 @@ use borrow.Author.Needs.{needs}
 use Rattle.float.proofs.single.candidate.Statement.{statement}
 use Rattle.float.proofs.single.candidate.Tie as tie
 
-cast-sign : tie.Need-cast-sign
-cast-sign c = search needs
-
-mul-sign : tie.Need-mul-sign
-mul-sign c = search needs
-
 returns : tie.Need-returns
 returns c = points-none (c .before .args .pattern) (c .if1 .taken)
-
-add-digits : tie.Need-add-digits
-add-digits c = search needs
-
-sub-below : tie.Need-sub-below
-sub-below c = search needs
-
-shr-result : tie.Need-shr-result
-shr-result c = search needs
 
 cast-result : tie.Need-cast-result
 cast-result c = omega (arith, few-small (c .before .before .args .pattern) (c .before .if1 .left) (c .if2 .taken))
@@ -32,20 +17,8 @@ add-result c = omega (arith, few-small (c .before .before .args .pattern) (c .be
 returns-2 : tie.Need-returns-2
 returns-2 c = points-few (c .before .before .args .pattern) (c .before .if1 .left) (c .if2 .taken)
 
-sub-result : tie.Need-sub-result
-sub-result c = search needs
-
-cast-result-2 : tie.Need-cast-result-2
-cast-result-2 c = search needs
-
-add-result-2 : tie.Need-add-result-2
-add-result-2 c = search needs
-
 returns-3 : tie.Need-returns-3
 returns-3 c = points-many (c .before .before .before .args .pattern) (c .before .if2 .left) (c .if3 .taken)
-
-add-result-3 : tie.Need-add-result-3
-add-result-3 c = search needs
 
 returns-4 : tie.Need-returns-4
 returns-4 c = points-most (c .before .before .before .args .pattern) (c .if3 .left)
@@ -54,18 +27,13 @@ pub candidate-spec : {M : Type 1} → statement M
 candidate-spec =
     tie.close
     (tie.spec
-    cast-sign
-    mul-sign
+    (λ c. search needs) (λ c. search needs)
     returns
-    add-digits
-    sub-below
-    shr-result
+    (λ c. search needs) (λ c. search needs) (λ c. search needs)
     cast-result
     add-result
     returns-2
-    sub-result
-    cast-result-2
-    add-result-2
+    (λ c. search needs) (λ c. search needs) (λ c. search needs)
     returns-3
-    add-result-3
+    (λ c. search needs)
     returns-4)

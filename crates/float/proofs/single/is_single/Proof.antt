@@ -15,20 +15,11 @@ float-to-bits-pattern c = no-nan (c .before .args .x) (c .if1 .left)
 returns-2 : tie.Need-returns-2
 returns-2 c = let a = c .before .before in zero-exact (a .args .x) (true-is _ (a .good .0 .1)) (no-nan (a .args .x) (c .before .if1 .left)) (c .if2 .taken)
 
-short-requires : tie.Need-short-requires
-short-requires c κs = search needs
-
 returns-3 : tie.Need-returns-3
 returns-3 c =
     let a = c .before .before .before .before in
     let s = c .before .short .ensures (true-is _ (c .if3 .taken)) in
     short-exact (a .args .x) (true-is _ (a .good .0 .1)) (no-nan (a .args .x) (c .before .before .before .if1 .left)) (s .0) (s .1) (s .2)
-
-candidate-requires : tie.Need-candidate-requires
-candidate-requires c κs = search needs
-
-float-from-bits-back : tie.Need-float-from-bits-back
-float-from-bits-back c = search needs
 
 float-to-float-back : tie.Need-float-to-float-back
 float-to-float-back c = widens (c .before .candidate .result) (c .before .candidate .ensures .0)
@@ -48,10 +39,9 @@ is-single-spec =
     returns
     float-to-bits-pattern
     returns-2
-    short-requires
+    (λ c κs. search needs)
     returns-3
-    candidate-requires
-    float-from-bits-back
+    (λ c κs. search needs) (λ c. search needs)
     float-to-float-back
     float-to-bits-result
     returns-4)

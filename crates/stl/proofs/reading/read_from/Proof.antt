@@ -26,21 +26,6 @@ returns-2 c =
     let a = c .before .before .before .before .before .args in
     counted (a .file .now) (a .at) _ (a .triangles .now) (a .materials .now) _ refl (cut (a .file .now) (a .at) _ (a .triangles .now) (a .materials .now) (omega (arith, c .if2 .taken, c .before .if1 .left)))
 
-word-requires : tie.Need-word-requires
-word-requires c κs = search needs
-
-cast-n : tie.Need-cast-n
-cast-n c = search needs
-
-add-first : tie.Need-add-first
-add-first c = search needs
-
-sub-if3 : tie.Need-sub-if3
-sub-if3 c = search needs
-
-mul-if3 : tie.Need-mul-if3
-mul-if3 c = search needs
-
 returns-3 : tie.Need-returns-3
 unfolding told
 returns-3 c =
@@ -48,9 +33,6 @@ returns-3 c =
     let a = w .before .before .before .before .before .before .args in
     let n = w .word .result in
     counted (a .file .now) (a .at) n (a .triangles .now) (a .materials .now) _ (w .word .ensures) (other-length (a .file .now) (a .at) n (a .triangles .now) (a .materials .now) (omega (arith, w .before .if2 .left, w .before .before .if1 .left)) (λ e. c .if3 .taken (omega (arith, e))))
-
-mul-numbers : tie.Need-mul-numbers
-mul-numbers c = search needs
 
 returns-4 : tie.Need-returns-4
 unfolding told
@@ -76,12 +58,6 @@ returns-6 c =
     let n = w .word .result in
     counted (a .file .now) (a .at) n (a .triangles .now) (a .materials .now) _ (w .word .ensures) (material-room (a .file .now) (a .at) n (a .triangles .now) (a .materials .now) (omega (arith, c .before .before .before .if3 .left, w .before .if2 .left, w .before .before .if1 .left)) (c .before .before .if4 .left) (c .before .if5 .left) (c .if6 .taken))
 
-first-refused-requires : tie.Need-first-refused-requires
-first-refused-requires c κs = search needs
-
-enum-known-bad : tie.Need-enum-known-bad
-enum-known-bad c = search needs
-
 returns-7 : tie.Need-returns-7
 unfolding told
 returns-7 c =
@@ -92,18 +68,6 @@ returns-7 c =
     counted (a .file .now) (a .at) n (a .triangles .now) (a .materials .now) _ (w .word .ensures)
     (unfit (a .file .now) (a .at) n (a .triangles .now) (a .materials .now) (omega (arith, c .before .before .before .before .before .before .before .if3 .left, w .before .if2 .left, w .before .before .if1 .left)) (c .before .before .before .before .before .before .if4 .left) (c .before .before .before .before .before .if5 .left) (c .before .before .before .before .if6 .left) (f .first-refused .result) (f .first-refused .ensures) (c .before .bad .given .0 .0) (c .before .bad .given .1))
 
-enum-told : tie.Need-enum-told
-enum-told c = search needs
-
-sub-fill : tie.Need-sub-fill
-sub-fill c = search needs
-
-part-fill-start : tie.Need-part-fill-start
-part-fill-start c = search needs
-
-part-fill-end : tie.Need-part-fill-end
-part-fill-end c = search needs
-
 fill-requires : tie.Need-fill-requires
 fill-requires c κs =
     let w = c .before .before .before .before .before .before .before .before in
@@ -113,24 +77,6 @@ fill-requires c κs =
       length-take-le (12 * n - 0) (a .triangles .now) (omega (arith, c .before .before .before .before .before .if5 .left)) ∙ omega arith,
       held-admitted (a .file .now) (a .at + 4) n (sym (c .before .before .before .first-refused .ensures) ∙ c .before .enum-told .given .1),
     )
-
-sub-clear : tie.Need-sub-clear
-sub-clear c = search needs
-
-part-clear-start : tie.Need-part-clear-start
-part-clear-start c = search needs
-
-part-clear-end : tie.Need-part-clear-end
-part-clear-end c = search needs
-
-clear-requires : tie.Need-clear-requires
-clear-requires c κs = search needs
-
-same-length : tie.Need-same-length
-same-length c = search needs
-
-same-length-2 : tie.Need-same-length-2
-same-length-2 c = search needs
 
 returns-8 : tie.Need-returns-8
 unfolding told
@@ -150,28 +96,16 @@ read-from-spec =
     (tie.spec
     returns
     returns-2
-    word-requires
-    cast-n
-    add-first
-    sub-if3
-    mul-if3
+    (λ c κs. search needs) (λ c. search needs) (λ c. search needs) (λ c. search needs) (λ c. search needs)
     returns-3
-    mul-numbers
+    (λ c. search needs)
     returns-4
     returns-5
     returns-6
-    first-refused-requires
-    enum-known-bad
+    (λ c κs. search needs) (λ c. search needs)
     returns-7
-    enum-told
-    sub-fill
-    part-fill-start
-    part-fill-end
+    (λ c. search needs) (λ c. search needs) (λ c. search needs) (λ c. search needs)
     fill-requires
-    sub-clear
-    part-clear-start
-    part-clear-end
-    clear-requires
-    same-length
-    same-length-2
+    (λ c. search needs) (λ c. search needs) (λ c. search needs) (λ c κs. search needs) (λ c. search needs)
+    (λ c. search needs)
     returns-8)

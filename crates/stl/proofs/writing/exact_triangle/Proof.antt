@@ -6,18 +6,6 @@ use borrow.Author.Needs.{needs}
 use Rattle.stl.proofs.writing.exact_triangle.Statement.{statement}
 use Rattle.stl.proofs.writing.exact_triangle.Tie as tie
 
-exact-vector-requires : tie.Need-exact-vector-requires
-exact-vector-requires c κs = search needs
-
-exact-vector-requires-2 : tie.Need-exact-vector-requires-2
-exact-vector-requires-2 c κs = search needs
-
-exact-vector-requires-3 : tie.Need-exact-vector-requires-3
-exact-vector-requires-3 c κs = search needs
-
-exact-vector-requires-4 : tie.Need-exact-vector-requires-4
-exact-vector-requires-4 c κs = search needs
-
 returns : tie.Need-returns
 unfolding exactTriangle
 returns c =
@@ -47,10 +35,7 @@ pub exact-triangle-spec : {M : Type 1} → statement M
 exact-triangle-spec =
     tie.close
     (tie.spec
-    exact-vector-requires
-    exact-vector-requires-2
-    exact-vector-requires-3
-    exact-vector-requires-4
+    (λ c κs. search needs) (λ c κs. search needs) (λ c κs. search needs) (λ c κs. search needs)
     returns
     returns-2
     returns-3

@@ -5,15 +5,6 @@ use borrow.Author.Needs.{needs}
 use Rattle.stl.proofs.writing.exact_vector.Statement.{statement}
 use Rattle.stl.proofs.writing.exact_vector.Tie as tie
 
-is-single-requires : tie.Need-is-single-requires
-is-single-requires c κs = search needs
-
-is-single-requires-2 : tie.Need-is-single-requires-2
-is-single-requires-2 c κs = search needs
-
-is-single-requires-3 : tie.Need-is-single-requires-3
-is-single-requires-3 c κs = search needs
-
 returns : tie.Need-returns
 returns c =
     let second = c .before in
@@ -31,4 +22,8 @@ returns-3 c = and-no _ _ (sym (c .before .is-single .ensures) ∙ c .if1 .left)
 pub exact-vector-spec : {M : Type 1} → statement M
 exact-vector-spec =
     tie.close
-    (tie.spec is-single-requires is-single-requires-2 is-single-requires-3 returns returns-2 returns-3)
+    (tie.spec
+    (λ c κs. search needs) (λ c κs. search needs) (λ c κs. search needs)
+    returns
+    returns-2
+    returns-3)

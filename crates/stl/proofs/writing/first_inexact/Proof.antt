@@ -17,12 +17,6 @@ abbrev μ-loop : tie.MeasureT-loop
 loop-holds : tie.Need-loop-holds Inv-loop μ-loop
 loop-holds c = (omega arith, inexact-start (c .before .args .mesh .now) (c .before .args .n))
 
-read-requires : tie.Need-read-requires Inv-loop μ-loop
-read-requires c κs = search needs
-
-exact-triangle-requires : tie.Need-exact-triangle-requires Inv-loop μ-loop
-exact-triangle-requires c κs = search needs
-
 add-i : tie.Need-add-i Inv-loop μ-loop
 add-i c = omega (arith, c .before .before .before .loop-test .taken)
 
@@ -55,8 +49,7 @@ first-inexact-spec =
     Inv-loop
     μ-loop
     loop-holds
-    read-requires
-    exact-triangle-requires
+    (λ c κs. search needs) (λ c κs. search needs)
     add-i
     loop-less
     loop-again

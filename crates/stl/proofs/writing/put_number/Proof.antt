@@ -16,12 +16,6 @@ float-to-bits-put-word : tie.Need-float-to-bits-put-word
 unfolding exactly32
 float-to-bits-put-word c = and-r (fits binary32 (c .before .before .before .args .x)) (not (isNan (c .before .before .before .args .x))) (c .before .before .before .pre .1)
 
-put-word-requires : tie.Need-put-word-requires
-put-word-requires c κs = search needs
-
-same-length : tie.Need-same-length
-same-length c = search needs
-
 returns : tie.Need-returns
 unfolding narrowed
 returns c = c .before .before .put-word .ensures
@@ -29,4 +23,8 @@ returns c = c .before .before .put-word .ensures
 pub put-number-spec : {M : Type 1} → statement M
 put-number-spec =
     tie.close
-    (tie.spec float-to-float-put-word float-to-bits-put-word put-word-requires same-length returns)
+    (tie.spec
+    float-to-float-put-word
+    float-to-bits-put-word
+    (λ c κs. search needs) (λ c. search needs)
+    returns)
