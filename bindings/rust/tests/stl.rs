@@ -23,7 +23,18 @@ const TWO_TO_40: u32 = 0x5380_0000;
 /// Telling patterns: both zeros, the least and the greatest subnormal number, the
 /// least normal one, and the limits themselves.
 const TELLING: [u32; 12] = [
-    0x8000_0000, 0x4000_0000, 0xc000_0000, 0, 1, 0x807f_ffff, 0x0080_0000, TWO_TO_40, 0x8000_0001, ONE, 0xd380_0000, 2,
+    0x8000_0000,
+    0x4000_0000,
+    0xc000_0000,
+    0,
+    1,
+    0x807f_ffff,
+    0x0080_0000,
+    TWO_TO_40,
+    0x8000_0001,
+    ONE,
+    0xd380_0000,
+    2,
 ];
 
 fn bits(numbers: &[f64]) -> Vec<u64> {
@@ -86,7 +97,13 @@ fn refuses_to_read_in_order() {
     assert_eq!(refused(&file(&bad), 35, 3), (16, 0));
     assert_eq!(refused(&file(&bad), 36, 2), (16, 0));
     assert_eq!(refused(&file(&bad), 36, 3), (5, 1));
-    for pattern in [0x7f80_0000, 0xff80_0000, 0x7f80_0001, 0xffc0_0000, 0x4000_0001] {
+    for pattern in [
+        0x7f80_0000,
+        0xff80_0000,
+        0x7f80_0001,
+        0xffc0_0000,
+        0x4000_0001,
+    ] {
         let mut normal = [[ONE; 12]];
         normal[0][1] = pattern;
         assert_eq!(refused(&file(&normal), 12, 1), (5, 0), "{pattern:x}");
@@ -112,10 +129,20 @@ fn refuses_to_write_in_order() {
     assert_eq!(write(&mesh[..35], 233), (1, 0));
     assert_eq!(write(&vec![0.1; 12 * 65_537], 0), (2, 65_537));
     // Not by magnitude alone: 1 + 2^-24 has a digit more than a binary32, and 2^-150 is below the least.
-    for x in [1.0 + 2f64.powi(-24), 2f64.powi(-150), 3.0 * 2f64.powi(-150), f64::MIN_POSITIVE] {
+    for x in [
+        1.0 + 2f64.powi(-24),
+        2f64.powi(-150),
+        3.0 * 2f64.powi(-150),
+        f64::MIN_POSITIVE,
+    ] {
         assert_eq!(write(&[x; 12], 134), (17, 0), "{x:e}");
     }
-    for x in [2f64.powi(-149), -0.0, 3.0 * 2f64.powi(-149), 1.0 + 2f64.powi(-23)] {
+    for x in [
+        2f64.powi(-149),
+        -0.0,
+        3.0 * 2f64.powi(-149),
+        1.0 + 2f64.powi(-23),
+    ] {
         assert_eq!(write(&[x; 12], 134), (0, 134), "{x:e}");
     }
 }
@@ -137,7 +164,8 @@ fn a_path() {
     let mesh = [Triangle::from([0.5; 12]), Triangle::from([-0.0; 12])];
     write_stl_file(&path, &mesh).expect("the folder can be written");
     assert_eq!(read_stl_file(&path).expect("it was written"), mesh);
-    let error = write_stl_file(&path, &[Triangle::from([0.1; 12])]).expect_err("0.1 is no binary32");
+    let error =
+        write_stl_file(&path, &[Triangle::from([0.1; 12])]).expect_err("0.1 is no binary32");
     assert_eq!(error.refusal(), Some(Refusal::NotSingle { triangle: 0 }));
     assert_eq!(read_stl_file(&path).expect("it is as it was").len(), 2);
     std::fs::remove_file(&path).expect("it is there");

@@ -391,7 +391,10 @@ fn every_file(calls: &Calls, plan: &Plan) -> u64 {
         match stl_check::file(calls, k as u64, &case) {
             Ok(number) => *read.entry(number).or_insert(0_u64) += 1,
             Err(why) => found.add(case.0.len(), || {
-                format!("  {why}\n  rooms {} {}, file {:02x?}", case.1, case.2, case.0)
+                format!(
+                    "  {why}\n  rooms {} {}, file {:02x?}",
+                    case.1, case.2, case.0
+                )
             }),
         }
     }

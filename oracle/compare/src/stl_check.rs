@@ -148,7 +148,9 @@ pub fn file(calls: &Calls, seed: u64, case: &(Vec<u8>, usize, usize)) -> Result<
         record[48..].fill(0);
     }
     if (number, told) != (0, [file.len() as u64]) || again != zeroed {
-        return Err(format!("written again, it answers {number} {told:?}, or is another file"));
+        return Err(format!(
+            "written again, it answers {number} {told:?}, or is another file"
+        ));
     }
     Ok(0)
 }
@@ -178,7 +180,9 @@ pub fn mesh(calls: &Calls, seed: u64, case: &(Vec<f64>, usize)) -> Result<u32, S
     let file = &ours.2[..ours.1[0] as usize];
     let number = (calls.read_stl)(file, &mut back, &mut rooms, &mut told);
     if (number, told) != (0, [n as u64]) || !all(&back, mesh, same) || rooms != vec![0; n] {
-        return Err(format!("read back, it answers {number} {told:?}, or is another mesh"));
+        return Err(format!(
+            "read back, it answers {number} {told:?}, or is another mesh"
+        ));
     }
     Ok(0)
 }

@@ -15,6 +15,7 @@ fn the_reading_is_the_rust() {
         skies: 500,
         functions: 20_000,
         roots: 20_000,
+        files: 2_000,
     };
     assert_eq!(all(&READING, &plan), 0);
 }

@@ -21,11 +21,7 @@ fn numbers(file: &[u8], i: usize) -> [f64; 12] {
 
 /// How many triangles were read; refusals 15, 2, 16 and 5 (the lowest triangle),
 /// with both rooms unchanged.
-pub fn read(
-    file: &[u8],
-    triangles: &mut [f64],
-    materials: &mut [u32],
-) -> Result<usize, Refusal> {
+pub fn read(file: &[u8], triangles: &mut [f64], materials: &mut [u32]) -> Result<usize, Refusal> {
     if file.len() < 84 {
         return refuse(15, 0);
     }
@@ -70,7 +66,10 @@ pub fn write(triangles: &[f64], file: &mut [u8]) -> Result<usize, Refusal> {
     }
     file[..whole].fill(0);
     file[80..84].copy_from_slice(&(n as u32).to_le_bytes());
-    for (t, record) in triangles.chunks_exact(12).zip(file[84..].chunks_exact_mut(50)) {
+    for (t, record) in triangles
+        .chunks_exact(12)
+        .zip(file[84..].chunks_exact_mut(50))
+    {
         for (k, x) in t.iter().enumerate() {
             record[place(k)..][..4].copy_from_slice(&(*x as f32).to_le_bytes());
         }

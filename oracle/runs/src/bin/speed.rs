@@ -271,7 +271,14 @@ fn stl_on(name: &str, mesh: &[f64]) {
             let read = reading::stl::read(black_box(&lent), &mut triangles, &mut materials);
             must(read.map_or_else(|refusal| refusal.number, |_| 0));
         },
-        || must(raw::read_stl(black_box(&lent), &mut second, &mut rooms, &mut [0])),
+        || {
+            must(raw::read_stl(
+                black_box(&lent),
+                &mut second,
+                &mut rooms,
+                &mut [0],
+            ))
+        },
     );
     stl_row("read", name, n, ns);
     let mut other = file.clone();
