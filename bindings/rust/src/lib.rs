@@ -29,6 +29,9 @@
 //!
 //! [`Bvh::sky`] walks many rays in one call, [`Bvh::sky_parallel`] on many threads.
 //!
+//! `material_id` stands not in a [`Triangle`] but beside it: [`Bvh::with_materials`]
+//! gives each triangle one, and every hit tells the material that was struck.
+//!
 //! [`Triangle::new`] works a normal out, [`refill_normals`] those of a whole mesh.
 //!
 //! [`read_stl`] reads a mesh from binary STL, [`write_stl`] writes one; with `_file`

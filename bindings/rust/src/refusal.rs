@@ -1,6 +1,8 @@
 use std::error::Error;
 use std::fmt;
 
+use crate::raw;
+
 /// Why a call was refused, or one of its rays: the table of refusals in
 /// docs/RULES.md, by name. More names may come with later calls.
 #[derive(Clone, Copy, Debug, PartialEq, Eq, Hash)]
@@ -69,6 +71,8 @@ pub enum Refusal {
         /// The lowest triangle that has one.
         triangle: u64,
     },
+    /// 18: the materials are not one for each triangle.
+    MaterialList,
     /// A number that this crate does not know: the library is newer.
     Unknown {
         /// The number.
@@ -98,6 +102,7 @@ impl Refusal {
             15 => Self::FileLength,
             16 => Self::RoomTooShort,
             17 => Self::NotSingle { triangle: at },
+            18 => Self::MaterialList,
             _ => Self::Unknown { number, at },
         }
     }
@@ -123,6 +128,7 @@ impl Refusal {
             Self::FileLength => 15,
             Self::RoomTooShort => 16,
             Self::NotSingle { .. } => 17,
+            Self::MaterialList => 18,
             Self::Unknown { number, .. } => *number,
         }
     }
@@ -192,8 +198,11 @@ impl fmt::Display for Refusal {
                 f,
                 "more boxes would be tested than there are nodes, at node {node}; some node is reached twice: build the tree again"
             ),
-            Self::AnswerRoom => f.write_str(
-                "the answer room is too short; lend one number of times and four of told for each ray",
+            Self::AnswerRoom => write!(
+                f,
+                "the answer room is too short; lend {} of times and {} of told for each ray",
+                raw::PLACE_TIMES,
+                raw::PLACE_TOLD
             ),
             Self::RayNumbers => {
                 f.write_str("the rays' numbers do not come in sixes; give origin and direction of each")
@@ -208,6 +217,9 @@ impl fmt::Display for Refusal {
                 f,
                 "triangle {triangle} has a number that is not exactly a binary32, so STL would change it; round the mesh first"
             ),
+            Self::MaterialList => {
+                f.write_str("the materials are not as many as the triangles; give one for each")
+            }
             Self::Unknown { at, .. } => {
                 write!(f, "at {at}, by a number that this crate does not know; use the crate that came with the library")
             }

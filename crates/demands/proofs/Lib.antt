@@ -7,5 +7,6 @@ pub mod NearestHit
 pub mod SameHit
 pub mod Demand
 pub mod Sky
+pub mod Materials
 pub mod Surveying
 pub mod FromFile

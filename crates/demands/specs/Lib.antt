@@ -4,6 +4,7 @@ pub mod Reached
 pub mod NearestHit
 pub mod SameLeaves
 pub mod Demand
+pub mod Materials
 pub mod Sky
 pub mod Survey
 pub mod Stl

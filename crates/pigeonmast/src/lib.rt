@@ -33,8 +33,8 @@ ghost use Rattle.stl.specs.Reading.{readStl};
 ghost use Rattle.stl.specs.Writing.{writeStl};
 ghost use Rattle.pigeonmast.specs.Report.{abi, hitNumbers, frontNumber, sideNumber, refusalNumber, refusalAt, build, buildTold, buildReport, walk, walked, sky, skyReport, test, slabReport, triangleReport, triangleNumbers, normals, normalsReport, stlTold, stlRead, readReport, stlWritten, writeReport};
 
-// A hit's seven numbers: t, point, normal.
-fn hit_numbers(hit: Hit) -> [f64; 7]
+// A hit's nine numbers: t, point, normal, u, v.
+fn hit_numbers(hit: Hit) -> [f64; 9]
     ensures { λ r. ⌜ r ≡ hitNumbers hit ⌝ }
 {
     [
@@ -45,6 +45,8 @@ fn hit_numbers(hit: Hit) -> [f64; 7]
         hit.normal.x,
         hit.normal.y,
         hit.normal.z,
+        hit.u,
+        hit.v,
     ]
 }
 
@@ -80,7 +82,7 @@ fn tell_build(answer: Built, told: &mut [u64; 2]) -> u32
 }
 
 // What a walk answered: the number, with `told` written, and `numbers` where it is a hit.
-fn tell_walk(answer: Answer, numbers: &mut [f64; 7], told: &mut [u64; 4]) -> u32
+fn tell_walk(answer: Answer, numbers: &mut [f64; 9], told: &mut [u64; 5]) -> u32
     ensures { λ r. ⌜ walk r (now (numbers .exit)) (now (told .exit)) ≡ walked (answered answer) (now (numbers .entry)) ⌝ }
 {
     match answer {
@@ -90,15 +92,21 @@ fn tell_walk(answer: Answer, numbers: &mut [f64; 7], told: &mut [u64; 4]) -> u32
             triangles,
         } => {
             *numbers = hit_numbers(hit);
-            *told = [hit.triangle as u64, front_number(hit), boxes, triangles];
+            *told = [
+                hit.triangle as u64,
+                front_number(hit),
+                boxes,
+                triangles,
+                hit.material as u64,
+            ];
             100
         }
         Answer::Missed { boxes, triangles } => {
-            *told = [0, 0, boxes, triangles];
+            *told = [0, 0, boxes, triangles, 0];
             0
         }
         Answer::Refused { number, at } => {
-            *told = [at, 0, 0, 0];
+            *told = [at, 0, 0, 0, 0];
             number
         }
     }
@@ -135,7 +143,7 @@ fn tell_slab(span: Span, times: &mut [f64; 2]) -> u32
 }
 
 // What a triangle test answered: 2 front or 1 back with `numbers` written, or 0.
-fn tell_triangle(found: Found, numbers: &mut [f64; 7]) -> u32
+fn tell_triangle(found: Found, numbers: &mut [f64; 9]) -> u32
     ensures { λ r. ⌜ test r (now (numbers .exit)) ≡ triangleReport found (now (numbers .entry)) ⌝ }
 {
     match found {
@@ -153,7 +161,7 @@ fn tell_triangle(found: Found, numbers: &mut [f64; 7]) -> u32
 pub extern "C" fn pigeonmast_abi() -> u32
     ensures { λ r. ⌜ r ≡ abi ⌝ }
 {
-    1
+    3
 }
 
 // A triangle's twelve numbers: v0, v1, v2, normal.
@@ -209,31 +217,34 @@ pub extern "C" fn pigeonmast_build(
     tell_build(answer, told)
 }
 
-// Walks the ray (origin, direction) through the tree. 100 for a hit: numbers = t, point, normal; told = triangle, front (1 or 0), box tests,
-// triangle tests. 0 for a miss: told = 0, 0, box tests, triangle tests. Else the refusal number of `walk::walk`: told = at, 0, 0, 0. numbers
-// stay unchanged unless it is a hit.
+// Walks the ray (origin, direction) through the tree; `materials` has one for each triangle. 100 for a hit: numbers = t, point, normal, u, v; told =
+// triangle, front (1 or 0), box tests, triangle tests, the triangle's material. 0 for a miss: told = 0, 0, box tests, triangle tests, 0. Else the
+// refusal number of `walk::walk`: told = at, 0, 0, 0, 0. numbers stay unchanged unless it is a hit.
 #[no_mangle]
 pub extern "C" fn pigeonmast_walk(
     triangles: &[f64],
+    materials: &[u32],
     index: &[u32],
     boxes: &[f64],
     links: &[u32],
     ray: &[f64; 6],
-    numbers: &mut [f64; 7],
-    told: &mut [u64; 4],
+    numbers: &mut [f64; 9],
+    told: &mut [u64; 5],
 ) -> u32
-    ensures { λ r. ⌜ walk r (now (numbers .exit)) (now (told .exit)) ≡ walked (scene.walk (lent (now (triangles .entry)) (now (index .entry)) (now (boxes .entry)) (now (links .entry))) (rayAt (now (ray .entry)) 0)) (now (numbers .entry)) ⌝ }
+    ensures { λ r. ⌜ walk r (now (numbers .exit)) (now (told .exit)) ≡ walked (scene.walk (lent (now (triangles .entry)) (now (materials .entry)) (now (index .entry)) (now (boxes .entry)) (now (links .entry))) (rayAt (now (ray .entry)) 0)) (now (numbers .entry)) ⌝ }
 {
-    let answer = walk::walk(triangles, index, boxes, links, Ray::read(ray, 0));
+    let answer = walk::walk(triangles, materials, index, boxes, links, Ray::read(ray, 0));
     tell_walk(answer, numbers, told)
 }
 
-// Walks every ray of `rays` (six numbers each: origin, direction) through the tree. 0 and at = 0: times has t of each ray's hit, else 0, and told
-// four numbers a ray: outcome (0 a miss, 100 a hit, or a refusal), the triangle's number or the refusal's at, box tests, triangle tests; room beyond
-// the rays stays. Or refusal 1, 2, 14 or 13 of the whole call (`sky::sky`) with its at; times and told stay unchanged.
+// Walks every ray of `rays` (six numbers each: origin, direction) through the tree. 0 and at = 0: times has three numbers a ray: t, u, v of its hit, else 0, and told
+// five numbers a ray: outcome (0 a miss, 100 a hit, or a refusal), the triangle's number or the refusal's at, box tests, triangle tests, material,
+// 0 where none applies; room beyond the rays stays. Or refusal 1, 2, 18, 14 or 13 of the whole call (`sky::sky`) with its at; times and told stay
+// unchanged.
 #[no_mangle]
 pub extern "C" fn pigeonmast_sky(
     triangles: &[f64],
+    materials: &[u32],
     index: &[u32],
     boxes: &[f64],
     links: &[u32],
@@ -242,9 +253,9 @@ pub extern "C" fn pigeonmast_sky(
     told: &mut [u64],
     at: &mut [u64; 1],
 ) -> u32
-    ensures { λ r. ⌜ sky r (now (at .exit)) (now (times .exit)) (now (told .exit)) ≡ skyReport (filled (lent (now (triangles .entry)) (now (index .entry)) (now (boxes .entry)) (now (links .entry))) (now (rays .entry)) (now (times .entry)) (now (told .entry))) ⌝ }
+    ensures { λ r. ⌜ sky r (now (at .exit)) (now (times .exit)) (now (told .exit)) ≡ skyReport (filled (lent (now (triangles .entry)) (now (materials .entry)) (now (index .entry)) (now (boxes .entry)) (now (links .entry))) (now (rays .entry)) (now (times .entry)) (now (told .entry))) ⌝ }
 {
-    let answer = sky::sky(triangles, index, boxes, links, rays, times, told);
+    let answer = sky::sky(triangles, materials, index, boxes, links, rays, times, told);
     tell_sky(answer, at)
 }
 
@@ -257,17 +268,17 @@ pub extern "C" fn pigeonmast_slab(bounds: &[f64; 6], ray: &[f64; 6], times: &mut
     tell_slab(span, times)
 }
 
-// The test of a triangle (v0, v1, v2, normal) and a ray (origin, direction). 2 front or 1 back with numbers = t, point, normal; or 0 and
-// numbers unchanged.
+// The test of a triangle (v0, v1, v2, normal) and a ray (origin, direction). 2 front or 1 back with numbers = t, point, normal, u, v; or 0
+// and numbers unchanged.
 #[no_mangle]
 pub extern "C" fn pigeonmast_triangle(
     triangle: &[f64; 12],
     ray: &[f64; 6],
-    numbers: &mut [f64; 7],
+    numbers: &mut [f64; 9],
 ) -> u32
-    ensures { λ r. ⌜ test r (now (numbers .exit)) ≡ triangleReport (strike (rayAt (now (ray .entry)) 0) (triangleAt (now (triangle .entry)) 0) 0) (now (numbers .entry)) ⌝ }
+    ensures { λ r. ⌜ test r (now (numbers .exit)) ≡ triangleReport (strike (rayAt (now (ray .entry)) 0) (triangleAt (now (triangle .entry)) 0) 0 0) (now (numbers .entry)) ⌝ }
 {
-    let found = Triangle::read(triangle, 0).intersect(Ray::read(ray, 0), 0);
+    let found = Triangle::read(triangle, 0).intersect(Ray::read(ray, 0), 0, 0);
     tell_triangle(found, numbers)
 }
 

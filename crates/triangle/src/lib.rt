@@ -1,6 +1,6 @@
 // Triangles and the Möller–Trumbore test: a port of triangle.rs. Every call answers on every f64.
-// Left out: `material_id` and what turns a triangle of optics_core into one. For `surface_index` a hit has the triangle's
-// number. A mesh is a lent slice, twelve numbers a triangle: v0, v1, v2, normal.
+// Left out: what turns a triangle of optics_core into one. For `surface_index` a hit has the triangle's number, and for `material_id`, which the Rust
+// keeps in the triangle, the material that is lent beside it. A mesh is a lent slice, twelve numbers a triangle: v0, v1, v2, normal.
 mod normals; // normals.rt: Triangle::new, and the call that refills a mesh
 
 use aabb::Aabb;
@@ -30,13 +30,17 @@ pub struct Corners {
     pub v2: Vec3,
 }
 
-// What a ray finds where it meets a triangle: the distance, the point, the normal on the ray's side, whether that side is the front, and the triangle's number.
+// What a ray finds where it meets a triangle: the distance, the point, the normal on the ray's side, where on the triangle it is (u
+// along the edge from v0 to v1, v along that to v2), whether that side is the front, and the triangle's number and material.
 pub struct Hit {
     pub t: f64,
     pub point: Vec3,
     pub normal: Vec3,
+    pub u: f64,
+    pub v: f64,
     pub front: bool,
     pub triangle: u32,
+    pub material: u32,
 }
 
 // What a ray finds of a triangle.
@@ -133,19 +137,23 @@ impl Triangle {
         self.corners().distance(ray)
     }
 
-    // The hit at distance t (rule T5), with the normal turned to the ray's side.
-    pub fn hit(self, ray: Ray, t: f64, number: u32) -> Hit
-        ensures { λ r. ⌜ r ≡ hitAt ray self number t ⌝ }
+    // The hit at distance t (rule T5), with the normal turned to the ray's side, and u and v worked out as the test works them out.
+    pub fn hit(self, ray: Ray, t: f64, number: u32, material: u32) -> Hit
+        ensures { λ r. ⌜ r ≡ hitAt ray self number material t ⌝ }
     {
         let point = ray.at(t);
+        let spot = self.corners().crossing(ray);
         let normal = self.normal;
         if ray.direction.dot(normal) < 0.0 {
             return Hit {
                 t,
                 point,
                 normal,
+                u: spot.u,
+                v: spot.v,
                 front: true,
                 triangle: number,
+                material,
             };
         }
         let turned = normal.negated();
@@ -153,18 +161,21 @@ impl Triangle {
             t,
             point,
             normal: turned,
+            u: spot.u,
+            v: spot.v,
             front: false,
             triangle: number,
+            material,
         }
     }
 
-    // What the ray finds of the triangle, whose number is given.
-    pub fn intersect(self, ray: Ray, number: u32) -> Found
-        ensures { λ r. ⌜ r ≡ strike ray self number ⌝ }
+    // What the ray finds of the triangle, whose number and material are given.
+    pub fn intersect(self, ray: Ray, number: u32, material: u32) -> Found
+        ensures { λ r. ⌜ r ≡ strike ray self number material ⌝ }
     {
         match self.distance(ray) {
             Distance::None => Found::Nothing,
-            Distance::To(t) => Found::At(self.hit(ray, t, number)),
+            Distance::To(t) => Found::At(self.hit(ray, t, number, material)),
         }
     }
 }
