@@ -75,7 +75,9 @@ enum pigeonmast_refusal {
     PIGEONMAST_TOO_MANY_BOX_TESTS = 12,    /* more than there are nodes; at: the next node */
     PIGEONMAST_ANSWER_ROOM = 13,           /* times or told too short */
     PIGEONMAST_RAY_NUMBERS = 14,           /* rays not in sixes */
+    PIGEONMAST_FILE_LENGTH = 15,           /* below 84 bytes, or not 84 + 50 times the count */
     PIGEONMAST_ROOM_TOO_SHORT = 16,        /* lent room */
+    PIGEONMAST_NOT_SINGLE = 17,            /* a number that is no binary32; at: the triangle */
     PIGEONMAST_MATERIAL_LIST = 18,         /* materials not one for each triangle */
     PIGEONMAST_CONDITION_BROKEN = 19,      /* told: the condition, and where it breaks */
     PIGEONMAST_WEIGHTS_DIFFER = 27,        /* not one weight a ray */
@@ -215,6 +217,26 @@ uint32_t pigeonmast_accept(const double *triangles, size_t triangles_len,
                            const uint32_t *links, size_t links_len,
                            uint32_t *work, size_t work_len,
                            uint64_t told[2]);
+
+/* Reads a file of binary STL: n triangles, each number widened exactly, and a
+ * material of 0 for each. Header and attributes are not looked at. Answers 0 with
+ * told = n; room beyond 12n triangle numbers and n materials stays. Or refusal 15,
+ * 2 (at: the count), 16 (room for fewer triangles or materials) or 5 (the lowest
+ * triangle), the first in this order that applies, with told = at and both
+ * unchanged. */
+uint32_t pigeonmast_read_stl(const uint8_t *file, size_t file_len,
+                             double *triangles, size_t triangles_len,
+                             uint32_t *materials, size_t materials_len,
+                             uint64_t told[1]);
+
+/* Writes n triangles as a file of binary STL, with a zero header and zero
+ * attributes. Answers 0 with told = 84 + 50n; room beyond that many bytes stays.
+ * Or refusal 1, 2, 5, 17 (the lowest triangle with a number that is not exactly a
+ * binary32) or 16, the first in this order that applies, with told = at and the
+ * file unchanged. Read back it gives the same numbers, bit for bit. */
+uint32_t pigeonmast_write_stl(const double *triangles, size_t triangles_len,
+                              uint8_t *file, size_t file_len,
+                              uint64_t told[1]);
 
 #ifdef __cplusplus
 }

@@ -112,4 +112,22 @@ extern "C" {
         work_len: usize,
         told: *mut [u64; 2],
     ) -> u32;
+
+    pub fn pigeonmast_read_stl(
+        file: *const u8,
+        file_len: usize,
+        triangles: *mut f64,
+        triangles_len: usize,
+        materials: *mut u32,
+        materials_len: usize,
+        told: *mut [u64; 1],
+    ) -> u32;
+
+    pub fn pigeonmast_write_stl(
+        triangles: *const f64,
+        triangles_len: usize,
+        file: *mut u8,
+        file_len: usize,
+        told: *mut [u64; 1],
+    ) -> u32;
 }

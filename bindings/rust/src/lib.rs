@@ -38,6 +38,8 @@
 //! [`Triangle::new`] works a normal out, [`refill_normals`] those of a whole mesh.
 //!
 //! [`Bvh::from_lists`] takes a tree that was built elsewhere, if it is accepted.
+//! [`read_stl`] reads a mesh from binary STL, [`write_stl`] writes one; with `_file`
+//! from a path and to one.
 //!
 //! [`raw`] has the calls of the library as they stand, over lent slices, and says
 //! what is asked of the floating-point state. A Rust program starts in it.
@@ -53,6 +55,7 @@ mod condition;
 mod ffi;
 pub mod raw;
 mod refusal;
+mod stl;
 mod triangle;
 mod vector;
 mod watts;
@@ -61,6 +64,7 @@ pub use aabb::{ray_aabb_slab_test, Aabb};
 pub use bvh::{build_bvh, Bvh, BvhNode, Place, PlaceHit, Walk};
 pub use condition::Condition;
 pub use refusal::Refusal;
+pub use stl::{read_stl, read_stl_file, write_stl, write_stl_file, StlError};
 pub use triangle::{refill_normals, HitRecord, Triangle};
 pub use vector::{Ray, Vec3};
 pub use watts::{Report, Watts};

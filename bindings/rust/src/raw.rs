@@ -358,3 +358,62 @@ pub fn accept(
         )
     }
 }
+
+/// Reads a file of binary STL into `triangles`, twelve numbers each, and a 0 for
+/// each into `materials`.
+///
+/// Answers 0 with `told` = how many triangles; room beyond them stays. Or refusal
+/// 15, 2, 16 or 5, the first in this order that applies, with `told` = at, and
+/// both unchanged.
+///
+/// ```
+/// let mut told = [9];
+/// let read = |file: &[u8], told: &mut _| pigeonmast::raw::read_stl(file, &mut [], &mut [], told);
+/// // A header and a count of 0.
+/// assert_eq!((read(&[0; 84], &mut told), told), (0, [0]));
+/// assert_eq!((read(&[0; 85], &mut told), told), (15, [0]));
+/// ```
+pub fn read_stl(
+    file: &[u8],
+    triangles: &mut [f64],
+    materials: &mut [u32],
+    told: &mut [u64; 1],
+) -> u32 {
+    // SAFETY: as in `build`.
+    unsafe {
+        ffi::pigeonmast_read_stl(
+            file.as_ptr(),
+            file.len(),
+            triangles.as_mut_ptr(),
+            triangles.len(),
+            materials.as_mut_ptr(),
+            materials.len(),
+            told,
+        )
+    }
+}
+
+/// Writes these triangles, twelve numbers each, as a file of binary STL, with a
+/// zero header and zero attributes.
+///
+/// Answers 0 with `told` = how many bytes; room beyond them stays. Or refusal 1,
+/// 2, 5, 17 or 16, the first in this order that applies, with `told` = at, and
+/// the file unchanged.
+///
+/// ```
+/// let (mut file, mut told) = ([7; 85], [9]);
+/// assert_eq!(pigeonmast::raw::write_stl(&[], &mut file, &mut told), 0);
+/// assert_eq!((told, &file[..84], file[84]), ([84], &[0; 84][..], 7));
+/// ```
+pub fn write_stl(triangles: &[f64], file: &mut [u8], told: &mut [u64; 1]) -> u32 {
+    // SAFETY: as in `build`.
+    unsafe {
+        ffi::pigeonmast_write_stl(
+            triangles.as_ptr(),
+            triangles.len(),
+            file.as_mut_ptr(),
+            file.len(),
+            told,
+        )
+    }
+}

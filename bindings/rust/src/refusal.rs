@@ -61,8 +61,16 @@ pub enum Refusal {
     AnswerRoom,
     /// 14: the rays' numbers do not come in sixes.
     RayNumbers,
-    /// 16: lent room is too short.
+    /// 15: the file is shorter than 84 bytes, or its length is not 84 + 50 times
+    /// its count: it is no binary STL, or it is cut.
+    FileLength,
+    /// 16: lent room is too short for what would be written.
     RoomTooShort,
+    /// 17: a number is not exactly a binary32, as binary STL has them.
+    NotSingle {
+        /// The lowest triangle that has one.
+        triangle: u64,
+    },
     /// 18: the materials are not one for each triangle.
     MaterialList,
     /// 19: a tree that was built elsewhere is not accepted.
@@ -103,7 +111,9 @@ impl Refusal {
             12 => Self::TooManyBoxTests { node: at },
             13 => Self::AnswerRoom,
             14 => Self::RayNumbers,
+            15 => Self::FileLength,
             16 => Self::RoomTooShort,
+            17 => Self::NotSingle { triangle: at },
             18 => Self::MaterialList,
             27 => Self::WeightsDiffer,
             28 => Self::TooManyRays,
@@ -140,7 +150,9 @@ impl Refusal {
             Self::TooManyBoxTests { .. } => 12,
             Self::AnswerRoom => 13,
             Self::RayNumbers => 14,
+            Self::FileLength => 15,
             Self::RoomTooShort => 16,
+            Self::NotSingle { .. } => 17,
             Self::MaterialList => 18,
             Self::ConditionBroken { .. } => 19,
             Self::WeightsDiffer => 27,
@@ -162,6 +174,7 @@ impl Refusal {
             | Self::TooManyPending { node: at }
             | Self::TooManyBoxTests { node: at }
             | Self::ConditionBroken { place: at, .. }
+            | Self::NotSingle { triangle: at }
             | Self::Unknown { at, .. } => *at,
             _ => 0,
         }
@@ -223,9 +236,16 @@ impl fmt::Display for Refusal {
             Self::RayNumbers => {
                 f.write_str("the rays' numbers do not come in sixes; give origin and direction of each")
             }
-            Self::RoomTooShort => {
-                f.write_str("the lent room is too short; lend one number for each node and each triangle")
-            }
+            Self::FileLength => f.write_str(
+                "the file is not as long as its count says, so it is no binary STL, or it is cut; give 84 bytes and 50 for each triangle",
+            ),
+            Self::RoomTooShort => f.write_str(
+                "the lent room is too short; lend what the call's description asks for",
+            ),
+            Self::NotSingle { triangle } => write!(
+                f,
+                "triangle {triangle} has a number that is not exactly a binary32, so STL would change it; round the mesh first"
+            ),
             Self::MaterialList => {
                 f.write_str("the materials are not as many as the triangles; give one for each")
             }

@@ -7,6 +7,7 @@ use lib.Ieee.{Float, nan, inf, fin, neg, lt, le}
 use lib.Ieee.Fits.{and-l, and-r, and-i}
 use Rattle.float.specs.Number.{real, two-to-40}
 use Rattle.float.specs.Pick.{magnitude}
+use Rattle.float.proofs.Cases.{same-test}
 use Rattle.float.proofs.Order.{le→real-l, le→real-r, le-trans}
 use Rattle.float.proofs.Round.{le-neg}
 use Rattle.float.proofs.Pick.{lower-is, higher-is, lower-real, higher-real, lesser-left, lesser-right, lesser-most, greater-left, greater-right, greater-least}
@@ -16,12 +17,6 @@ use Rattle.aabb.specs.Vector.{along, all, allWithin, allAtMost}
 use Rattle.aabb.specs.Bounds.{bounded}
 use Rattle.aabb.proofs.Tests.{sides}
 use Rattle.aabb.proofs.Axis.{all-along, all-from, within-along, within-from, at-most-along}
-
-same-test : (a b : Bool) → (T a → T b) → (T b → T a) → a ≡ b
-same-test true true f g = refl
-same-test true false f g = absurd (f tt)
-same-test false true f g = absurd (g tt)
-same-test false false f g = refl
 
 -- ---- the lower and the higher of two, and of three
 abbrev lower : Float → Float → Float

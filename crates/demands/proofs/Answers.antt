@@ -13,6 +13,9 @@ use Rattle.sky.specs.Sky.{skyRefusal}
 use Rattle.accept.specs.declared.Verdict.{Verdict}
 use Rattle.accept.specs.declared.Verdict.the-variants.{Accepted, Refused as Unaccepted}
 use Rattle.accept.specs.Accept.{Ruling, ruling}
+use Rattle.stl.specs.declared.Answer.{Answer as Transfer}
+use Rattle.stl.specs.declared.Answer.the-variants.{Done as Moved, Refused as Unmoved}
+use Rattle.stl.specs.Answers.{Told, told}
 
 pub refill-told : (a b : Refill) → refillRefusal a ≡ refillRefusal b → a ≡ b
 unfolding refillRefusal
@@ -41,3 +44,10 @@ accept-told Accepted Accepted e = refl
 accept-told (Unaccepted n k i) (Unaccepted m l j) e = cc (ap (λ (r : Ruling). r .refusal) e, ap (λ (r : Ruling). r .condition) e)
 accept-told Accepted (Unaccepted m l j) e = apart m j (ap (λ (r : Ruling). r .refusal) e)
 accept-told (Unaccepted n k i) Accepted e = apart n i (ap (λ (r : Ruling). r .refusal) (sym e))
+
+pub stl-told : (a b : Transfer) → told a ≡ told b → a ≡ b
+unfolding told
+stl-told (Moved n) (Moved m) e = cc (ap (λ (r : Told). r .count) e)
+stl-told (Unmoved k i) (Unmoved l j) e = cc (ap (λ (r : Told). r .refusal) e)
+stl-told (Moved n) (Unmoved k i) e = apart k i (ap (λ (r : Told). r .refusal) e)
+stl-told (Unmoved k i) (Moved n) e = apart k i (ap (λ (r : Told). r .refusal) (sym e))

@@ -21,7 +21,9 @@ use Rattle.accept.specs.Accept.{ruling, Outcome as Judging, outcome as judging}
 use Rattle.sky.specs.Sky.{skyRefusal, Filling, filling}
 use Rattle.watts.specs.declared.Counted.{Counted}
 use Rattle.watts.specs.Watts.{Outcome as Weighing}
-use Rattle.demands.proofs.Answers.{refill-told, build-told, sky-told, accept-told}
+use Rattle.stl.specs.declared.Answer.{Answer as Transfer}
+use Rattle.stl.specs.Answers.{told as stlTold, Read, read-as, Written, written-as}
+use Rattle.demands.proofs.Answers.{refill-told, build-told, sky-told, accept-told, stl-told}
 use Rattle.float.proofs.infinity.Reads as float-infinity
 use Rattle.float.proofs.magnitude.Reads as float-magnitude
 use Rattle.float.proofs.lesser.Reads as float-lesser
@@ -34,6 +36,7 @@ use Rattle.float.proofs.total_less.Reads as float-total-less
 use Rattle.float.proofs.bits.Reads as float-bits
 use Rattle.float.proofs.from_bits.Reads as float-from-bits
 use Rattle.float.proofs.root.Reads as float-root
+use Rattle.float.proofs.is_single.Reads as float-is-single
 use Rattle.aabb.proofs.vector.Vec3.plus.Reads as vec3-plus
 use Rattle.aabb.proofs.vector.Vec3.minus.Reads as vec3-minus
 use Rattle.aabb.proofs.vector.Vec3.negated.Reads as vec3-negated
@@ -103,10 +106,12 @@ use Rattle.sky.proofs.sky.Reads as sky-sky
 use Rattle.watts.proofs.share.Reads as watts-share
 use Rattle.watts.proofs.watts.Reads as watts-watts
 use Rattle.accept.proofs.accept.Reads as accept-accept
+use Rattle.stl.proofs.read.Reads as stl-read
+use Rattle.stl.proofs.write.Reads as stl-write
 
 -- the calls of `float`
-pub float-fixed : Fixes float-infinity.Post × Fixes float-magnitude.Post × Fixes float-lesser.Post × Fixes float-greater.Post × Fixes float-lower.Post × Fixes float-higher.Post × Fixes float-minus-zero.Post × Fixes float-less-number.Post × Fixes float-total-less.Post × Fixes float-bits.Post × Fixes float-from-bits.Post × Fixes float-root.Post
-float-fixed = (fixed, fixed, fixed, fixed, fixed, fixed, fixed, fixed, fixed, fixed, fixed, fixed)
+pub float-fixed : Fixes float-infinity.Post × Fixes float-magnitude.Post × Fixes float-lesser.Post × Fixes float-greater.Post × Fixes float-lower.Post × Fixes float-higher.Post × Fixes float-minus-zero.Post × Fixes float-less-number.Post × Fixes float-total-less.Post × Fixes float-bits.Post × Fixes float-from-bits.Post × Fixes float-root.Post × Fixes float-is-single.Post
+float-fixed = (fixed, fixed, fixed, fixed, fixed, fixed, fixed, fixed, fixed, fixed, fixed, fixed, fixed)
 
 -- the calls of `aabb`
 pub aabb-fixed : Fixes vec3-plus.Post × Fixes vec3-minus.Post × Fixes vec3-negated.Post × Fixes vec3-scaled.Post × Fixes vec3-divided.Post × Fixes vec3-dot.Post × Fixes vec3-cross.Post × Fixes vec3-least.Post × Fixes vec3-greatest.Post × Fixes vec3-lowest.Post × Fixes vec3-highest.Post × Fixes vec3-along.Post × Fixes vec3-within.Post × Fixes vec3-at-most.Post × Fixes vec3-all-equal.Post × Fixes vec3-read.Post × Fixes aabb-place.Post × Fixes ray-read.Post × Fixes ray-at.Post × Fixes ray-admitted.Post × Fixes aabb-empty.Post × Fixes aabb-from-points.Post × Fixes aabb-grow.Post × Fixes aabb-union.Post × Fixes aabb-widened.Post × Fixes aabb-joined.Post × Fixes aabb-center.Post × Fixes aabb-extent.Post × Fixes aabb-surface-area.Post × Fixes aabb-bounded.Post × Fixes aabb-is-empty.Post × Fixes aabb-usable.Post × Fixes aabb-contains.Post × Fixes aabb-holds.Post × Fixes aabb-read.Post × Fixes aabb-intersect-ray.Post × Fixes sight-of.Post × Fixes aim-of.Post × Fixes aim-through.Post
@@ -173,3 +178,17 @@ accept-same a b x y e = let t = accept-told a b (ap (λ (o : Judging). o .answer
 
 pub accept-fixed : FixesAll accept-accept.Post {C = Verdict × List ℕ} (λ κs r e. (r, e .1 .1 .1 .1 .0 .now))
 accept-fixed κs x r r' e e' p q = accept-same r r' _ _ (p ∙ sym q)
+
+-- the answer, and the triangle and material rooms at the end
+read-same : (a b : Transfer) (x y : List Float) (k l : List ℕ) → read-as (stlTold a) x k ≡ read-as (stlTold b) y l → _≡_ {A = Transfer × List Float × List ℕ} (a, x, k) (b, y, l)
+read-same a b x y k l e = let t = stl-told a b (ap (λ (o : Read). o .answer) e) in λ z. (t z, e z .triangles, e z .materials)
+
+pub read-fixed : FixesAll stl-read.Post {C = Transfer × List Float × List ℕ} (λ κs r e. (r, e .1 .0 .now, e .1 .1 .0 .now))
+read-fixed κs x r r' e e' p q = read-same r r' _ _ _ _ (p ∙ sym q)
+
+-- the answer, and the file at the end
+write-same : (a b : Transfer) (k l : List ℕ) → written-as (stlTold a) k ≡ written-as (stlTold b) l → _≡_ {A = Transfer × List ℕ} (a, k) (b, l)
+write-same a b k l e = let t = stl-told a b (ap (λ (o : Written). o .answer) e) in λ z. (t z, e z .file)
+
+pub write-fixed : FixesAll stl-write.Post {C = Transfer × List ℕ} (λ κs r e. (r, e .1 .0 .now))
+write-fixed κs x r r' e e' p q = write-same r r' _ _ (p ∙ sym q)

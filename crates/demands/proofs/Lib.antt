@@ -10,3 +10,4 @@ pub mod Sky
 pub mod Materials
 pub mod Surveying
 pub mod Accepting
+pub mod FromFile

@@ -8,3 +8,4 @@ pub mod Materials
 pub mod Sky
 pub mod Survey
 pub mod Accepted
+pub mod Stl

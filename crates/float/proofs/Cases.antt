@@ -14,6 +14,13 @@ true-is b p = subst T (sym p) tt
 pub false-is : (b : Bool) → b ≡ false → T (not b)
 false-is b p = subst (λ (t : Bool). T (not t)) (sym p) tt
 
+-- ---- two tests that say the same
+pub same-test : (a b : Bool) → (T a → T b) → (T b → T a) → a ≡ b
+same-test true true f g = refl
+same-test false false f g = refl
+same-test true false f g = absurd (f tt)
+same-test false true f g = absurd (g tt)
+
 -- ---- one test or the other
 pub or-l : (a b : Bool) → T a → T (a || b)
 or-l true b t = tt

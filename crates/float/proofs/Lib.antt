@@ -10,6 +10,8 @@ pub mod Pick
 mod Absolute
 pub mod Total
 mod Patterns
+mod SingleForms
+pub mod SingleExact
 mod RootWhole
 mod RootHalves
 mod RootScaled

@@ -3,3 +3,4 @@ pub mod Pick
 pub mod Total
 pub mod Root
 pub mod Nearest
+pub mod Single

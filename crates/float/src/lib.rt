@@ -1,7 +1,9 @@
-// The float calls that Rattle lacks (rules F3 to F8): the infinity, `abs`, `min`, `max`, `total_cmp` and `sqrt`.
+// The float calls that Rattle lacks (rules F3 to F9): the infinity, `abs`, `min`, `max`, `total_cmp`, `sqrt`, and whether a number is a binary32.
 // Each answers on every f64. The laws of the order and of rounding, which the other layers cite, stand in proofs/.
+mod single; // single.rt: which numbers are exactly a binary32
 mod square_root; // square_root.rt: the square root
 
+pub use single::is_single;
 pub use square_root::root;
 ghost use mathlib.Core.Path.{_≡_};
 ghost use lib.Ieee.{binary64, toBits, ofBits};

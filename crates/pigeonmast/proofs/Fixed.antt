@@ -5,7 +5,7 @@ use mathlib.Core.List.{List}
 use lib.Ieee.{Float}
 use Rattle.lent.specs.Fixed.{Fixes, FixesAll}
 use Rattle.lent.proofs.Fixed.{fixed}
-use Rattle.pigeonmast.specs.Report.{Build, Walk, Sky, Test, Normals, Watts, Accept}
+use Rattle.pigeonmast.specs.Report.{Build, Walk, Sky, Test, Normals, Watts, Accept, StlRead, StlWritten}
 use Rattle.pigeonmast.proofs.pigeonmast_abi.Reads as abi
 use Rattle.pigeonmast.proofs.pigeonmast_root.Reads as root
 use Rattle.pigeonmast.proofs.pigeonmast_new.Reads as new
@@ -18,6 +18,8 @@ use Rattle.pigeonmast.proofs.pigeonmast_sky.Reads as sky
 use Rattle.pigeonmast.proofs.pigeonmast_watts.Reads as watts
 use Rattle.pigeonmast.proofs.pigeonmast_share.Reads as share
 use Rattle.pigeonmast.proofs.pigeonmast_accept.Reads as accept
+use Rattle.pigeonmast.proofs.pigeonmast_read_stl.Reads as read-stl
+use Rattle.pigeonmast.proofs.pigeonmast_write_stl.Reads as write-stl
 
 pub abi-fixed : Fixes abi.Post
 abi-fixed = fixed
@@ -59,3 +61,11 @@ share-fixed κs x r r' e e' p q = λ i. ((p .0 ∙ sym (q .0)) i, (p .1 ∙ sym 
 -- the work room and what is told
 pub accept-fixed : FixesAll accept.Post {C = ℕ × List ℕ × List ℕ} (λ κs r e. (r, e .1 .1 .1 .1 .0 .now, e .1 .1 .1 .1 .1 .0 .now))
 accept-fixed κs x r r' e e' p q = ap (λ (o : Accept). (o .answer, o .work, o .told)) (p ∙ sym q)
+
+-- the triangles, the materials and what is told
+pub read-stl-fixed : FixesAll read-stl.Post {C = ℕ × List Float × List ℕ × List ℕ} (λ κs r e. (r, e .1 .0 .now, e .1 .1 .0 .now, e .1 .1 .1 .0 .now))
+read-stl-fixed κs x r r' e e' p q = ap (λ (o : StlRead). (o .answer, o .triangles, o .materials, o .told)) (p ∙ sym q)
+
+-- the file and what is told
+pub write-stl-fixed : FixesAll write-stl.Post {C = ℕ × List ℕ × List ℕ} (λ κs r e. (r, e .1 .0 .now, e .1 .1 .0 .now))
+write-stl-fixed κs x r r' e e' p q = ap (λ (o : StlWritten). (o .answer, o .file, o .told)) (p ∙ sym q)

@@ -21,6 +21,7 @@ use Rattle.watts.specs.declared.Counted.{Counted}
 use Rattle.watts.specs.declared.Counted.the-variants.{Report, Refused}
 use Rattle.watts.specs.Watts.{wattsRefusal, Outcome as Weighing}
 use Rattle.accept.specs.Accept.{Ruling, Outcome as Judging}
+use Rattle.stl.specs.Answers.{Told as StlTold, Read, Written}
 
 -- ---- pigeonmast_abi (rule X5)
 -- the number of the calls' form, PIGEONMAST_ABI of the C header
@@ -193,3 +194,37 @@ acceptTold r = conditionTold (r .refusal) (r .condition)
 -- 0, or the refusal number
 unfoldable pub acceptReport : Judging → Accept
 acceptReport o = accept (refusalNumber (o .answer .refusal)) (acceptTold (o .answer)) (o .work)
+
+-- ---- pigeonmast_read_stl and pigeonmast_write_stl (rule X9)
+-- told = how many triangles or bytes; or told = at
+unfoldable pub howMany : Refusal → ℕ → List ℕ
+howMany none count = count ∷ []
+howMany (numbered number at) count = at ∷ []
+
+unfoldable pub stlTold : StlTold → List ℕ
+stlTold a = howMany (a .refusal) (a .count)
+
+-- the number, and what told, the triangles and the materials hold at the end
+pub record StlRead : Type 0 where
+  pub answer : ℕ
+  pub told : List ℕ
+  pub triangles : List Float
+  pub materials : List ℕ
+
+abbrev pub stlRead : ℕ → List ℕ → List Float → List ℕ → StlRead
+stlRead answer told triangles materials = record { answer = answer; told = told; triangles = triangles; materials = materials }
+
+unfoldable pub readReport : Read → StlRead
+readReport o = stlRead (refusalNumber (o .answer .refusal)) (stlTold (o .answer)) (o .triangles) (o .materials)
+
+-- the number, and what told and the file hold at the end
+pub record StlWritten : Type 0 where
+  pub answer : ℕ
+  pub told : List ℕ
+  pub file : List ℕ
+
+abbrev pub stlWritten : ℕ → List ℕ → List ℕ → StlWritten
+stlWritten answer told file = record { answer = answer; told = told; file = file }
+
+unfoldable pub writeReport : Written → StlWritten
+writeReport o = stlWritten (refusalNumber (o .answer .refusal)) (stlTold (o .answer)) (o .file)

@@ -34,7 +34,10 @@ ghost use Rattle.watts.specs.Share.{share as shareOf};
 ghost use Rattle.watts.specs.Watts.{wattsRefusal, watts as weighed};
 ghost use Rattle.accept.specs.Conditions.{foreign};
 ghost use Rattle.accept.specs.Accept.{ruling, accepted};
-ghost use Rattle.pigeonmast.specs.Report.{abi, hitNumbers, frontNumber, sideNumber, refusalNumber, refusalAt, build, buildTold, buildReport, walk, walked, sky, skyReport, test, slabReport, triangleReport, triangleNumbers, normals, normalsReport, watts, reportNumbers, wattsReport, shareNumbers, accept, acceptTold, acceptReport};
+ghost use Rattle.stl.specs.Answers.{told as stlAnswered};
+ghost use Rattle.stl.specs.Reading.{readStl};
+ghost use Rattle.stl.specs.Writing.{writeStl};
+ghost use Rattle.pigeonmast.specs.Report.{abi, hitNumbers, frontNumber, sideNumber, refusalNumber, refusalAt, build, buildTold, buildReport, walk, walked, sky, skyReport, test, slabReport, triangleReport, triangleNumbers, normals, normalsReport, watts, reportNumbers, wattsReport, shareNumbers, accept, acceptTold, acceptReport, stlTold, stlRead, readReport, stlWritten, writeReport};
 
 // A hit's nine numbers: t, point, normal, u, v.
 fn hit_numbers(hit: Hit) -> [f64; 9]
@@ -426,4 +429,50 @@ pub extern "C" fn pigeonmast_accept(
 {
     let answer = accept::accept(triangles, index, boxes, links, work);
     tell_accept(answer, told)
+}
+
+// What a reading or a writing of STL answered: 0 or the refusal number, with `told` written.
+fn tell_stl(answer: stl::Answer, told: &mut [u64; 1]) -> u32
+    ensures { λ r. ⌜ r ≡ refusalNumber (stlAnswered answer .refusal) ⌝ }
+    ensures { λ _. ⌜ now (told .exit) ≡ stlTold (stlAnswered answer) ⌝ }
+{
+    match answer {
+        stl::Answer::Done(count) => {
+            *told = [count as u64];
+            0
+        }
+        stl::Answer::Refused { number, at: place } => {
+            *told = [place as u64];
+            number
+        }
+    }
+}
+
+// Reads a file of binary STL into the lent triangles (twelve numbers each) and materials (a 0 each). 0 and told = how many triangles; room beyond them stays. Or
+// refusal 15, 2, 16 or 5 (`stl::read`) with told = at, and triangles and materials unchanged.
+#[no_mangle]
+pub extern "C" fn pigeonmast_read_stl(
+    file: &[u8],
+    triangles: &mut [f64],
+    materials: &mut [u32],
+    told: &mut [u64; 1],
+) -> u32
+    ensures { λ r. ⌜ stlRead r (now (told .exit)) (now (triangles .exit)) (now (materials .exit)) ≡ readReport (readStl (now (file .entry)) (now (triangles .entry)) (now (materials .entry))) ⌝ }
+{
+    let answer = stl::read(file, triangles, materials);
+    tell_stl(answer, told)
+}
+
+// Writes the triangles (twelve numbers each) as a file of binary STL into the lent bytes. 0 and told = how many bytes; room beyond them stays. Or refusal 1, 2, 5,
+// 17 or 16 (`stl::write`) with told = at, and the file unchanged.
+#[no_mangle]
+pub extern "C" fn pigeonmast_write_stl(
+    triangles: &[f64],
+    file: &mut [u8],
+    told: &mut [u64; 1],
+) -> u32
+    ensures { λ r. ⌜ stlWritten r (now (told .exit)) (now (file .exit)) ≡ writeReport (writeStl (now (triangles .entry)) (now (file .entry))) ⌝ }
+{
+    let answer = stl::write(triangles, file);
+    tell_stl(answer, told)
 }

@@ -48,6 +48,8 @@ pub struct Calls {
     pub watts: Watts,
     pub share: fn(u64, u64, &mut [u64; 2]) -> u32,
     pub accept: Accept,
+    pub read_stl: fn(&[u8], &mut [f64], &mut [u32], &mut [u64; 1]) -> u32,
+    pub write_stl: fn(&[f64], &mut [u8], &mut [u64; 1]) -> u32,
 }
 
 impl Calls {
@@ -106,6 +108,8 @@ pub const READING: Calls = Calls {
     watts: reading::calls::watts,
     share: reading::calls::share,
     accept: reading::calls::accept,
+    read_stl: reading::calls::read_stl,
+    write_stl: reading::calls::write_stl,
 };
 
 /// Equal bit for bit; two NaNs count as one.

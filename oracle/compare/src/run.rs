@@ -5,7 +5,7 @@ use crate::mesh_check::{self, Case, Tally};
 use crate::random::Random;
 use crate::{
     accept_check, foreign_check, functions, hostile, meshes, node_room, normal_check, rays,
-    reading_check, root_check, show, sky_check, watts_check, Lists,
+    reading_check, root_check, show, sky_check, stl_check, watts_check, Lists,
 };
 use std::collections::BTreeMap;
 
@@ -22,6 +22,8 @@ pub struct Plan {
     pub functions: usize,
     pub roots: usize,
     pub accepts: usize,
+    /// Files read, and as many meshes written.
+    pub files: usize,
 }
 
 pub const QUICK: Plan = Plan {
@@ -36,6 +38,7 @@ pub const QUICK: Plan = Plan {
     functions: 1_000_000,
     roots: 1_000_000,
     accepts: 300_000,
+    files: 5_000,
 };
 
 pub const LONG: Plan = Plan {
@@ -50,6 +53,7 @@ pub const LONG: Plan = Plan {
     functions: 20_000_000,
     roots: 100_000_000,
     accepts: 6_000_000,
+    files: 100_000,
 };
 
 /// Prints as it goes. Answers how many differed.
@@ -65,6 +69,7 @@ pub fn all(calls: &Calls, plan: &Plan) -> u64 {
         every_root(calls, plan),
         every_normal(calls, plan),
         every_accept(calls, plan),
+        every_file(calls, plan),
     ];
     parts.iter().sum()
 }
@@ -444,6 +449,48 @@ fn every_accept(calls: &Calls, plan: &Plan) -> u64 {
         "trees from elsewhere, seed {}: {} judged; by answer and condition {answers:?}",
         plan.seed ^ 10,
         plan.accepts
+    );
+    found.end()
+}
+
+/// Binary STL: files read and meshes written, each the other way round again.
+fn every_file(calls: &Calls, plan: &Plan) -> u64 {
+    let mut found = Found::default();
+    let mut r = Random::new(plan.seed ^ 11);
+    let (mut read, mut written) = (BTreeMap::new(), BTreeMap::new());
+    // As many triangles as there may be, and one more, with room and without.
+    let whole = |n: u32| {
+        let mut file = vec![0; 84 + 50 * n as usize];
+        file[80..84].copy_from_slice(&n.to_le_bytes());
+        file
+    };
+    let large = [(65_536, 12 * 65_536), (65_537, 12 * 65_537), (65_537, 5)];
+    let files = large.map(|(n, room)| (whole(n), room, n as usize));
+    let seeded = (0..plan.files).map(|_| stl_check::file_case(&mut r));
+    for (k, case) in files.into_iter().chain(seeded).enumerate() {
+        match stl_check::file(calls, k as u64, &case) {
+            Ok(number) => *read.entry(number).or_insert(0_u64) += 1,
+            Err(why) => found.add(case.0.len(), || {
+                format!(
+                    "  {why}\n  rooms {} {}, file {:02x?}",
+                    case.1, case.2, case.0
+                )
+            }),
+        }
+    }
+    let large = [65_536, 65_537].map(|n| (vec![1.0; 12 * n], 84 + 50 * n));
+    let seeded = (0..plan.files).map(|_| stl_check::mesh_case(&mut r));
+    for (k, case) in large.into_iter().chain(seeded).enumerate() {
+        match stl_check::mesh(calls, k as u64, &case) {
+            Ok(number) => *written.entry(number).or_insert(0_u64) += 1,
+            Err(why) => found.add(case.0.len(), || {
+                format!("  {why}\n  room {}, mesh {}", case.1, show::bits(&case.0))
+            }),
+        }
+    }
+    println!(
+        "STL, seed {}: files read {read:?}, meshes written {written:?}",
+        plan.seed ^ 11
     );
     found.end()
 }

@@ -18,6 +18,7 @@ fn the_reading_is_the_rust() {
         functions: 20_000,
         roots: 20_000,
         accepts: 1_000,
+        files: 2_000,
     };
     assert_eq!(all(&READING, &plan), 0);
 }

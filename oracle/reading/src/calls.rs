@@ -1,8 +1,8 @@
 //! The reading behind the boundary of the exported calls.
 
 use crate::walk::Answer;
-use crate::{accept as judge, boxes, builder, normals as refill, sky as skies, triangles};
-use crate::{walk as walker, watts as weighed, Numbers, Told};
+use crate::{accept as judge, boxes, builder, normals as refill, sky as skies, stl, triangles};
+use crate::{walk as walker, watts as weighed, Numbers, Refusal, Told};
 
 pub fn build(
     triangles: &[f64],
@@ -157,4 +157,26 @@ pub fn accept(
     };
     *told = what;
     number
+}
+
+fn told_of(answer: Result<usize, Refusal>, told: &mut [u64; 1]) -> u32 {
+    let (number, value) = match answer {
+        Ok(count) => (0, count as u64),
+        Err(refusal) => (refusal.number, refusal.at),
+    };
+    *told = [value];
+    number
+}
+
+pub fn read_stl(
+    file: &[u8],
+    triangles: &mut [f64],
+    materials: &mut [u32],
+    told: &mut [u64; 1],
+) -> u32 {
+    told_of(stl::read(file, triangles, materials), told)
+}
+
+pub fn write_stl(triangles: &[f64], file: &mut [u8], told: &mut [u64; 1]) -> u32 {
+    told_of(stl::write(triangles, file), told)
 }

@@ -14,6 +14,7 @@ pub mod calls;
 pub mod normals;
 pub mod sky;
 pub mod split;
+pub mod stl;
 pub mod triangles;
 pub mod walk;
 pub mod watts;

@@ -17,6 +17,8 @@ pub const PIGEONMAST: Calls = Calls {
     watts: raw::watts,
     share: raw::share,
     accept: raw::accept,
+    read_stl: raw::read_stl,
+    write_stl: raw::write_stl,
 };
 
 /// A clear line, and the status of bad usage.

@@ -314,6 +314,58 @@ fn accept_on(name: &str, mesh: &[f64], r: &mut Random) {
     );
 }
 
+/// A mesh's file read and written, in lent room, beside the plain reader and
+/// writer of the reading, which check the same limits. The mesh is rounded to
+/// binary32s first.
+fn stl_on(name: &str, mesh: &[f64]) {
+    let mesh: Vec<f64> = mesh.iter().map(|x| f64::from(*x as f32)).collect();
+    let n = mesh.len() / 12;
+    let (mut file, mut told) = (vec![0; 84 + 50 * n], [0]);
+    let (mut triangles, mut materials) = (vec![0.0; 12 * n], vec![0; n]);
+    let must = |number: u32| {
+        if number != 0 {
+            stop(&format!("speed: the file is refused: {number}"));
+        }
+    };
+    must(raw::write_stl(&mesh, &mut file, &mut told));
+    let lent = file.clone();
+    let (mut second, mut rooms) = (triangles.clone(), materials.clone());
+    let ns = least(
+        RUNS,
+        || {
+            let read = reading::stl::read(black_box(&lent), &mut triangles, &mut materials);
+            must(read.map_or_else(|refusal| refusal.number, |_| 0));
+        },
+        || {
+            must(raw::read_stl(
+                black_box(&lent),
+                &mut second,
+                &mut rooms,
+                &mut [0],
+            ))
+        },
+    );
+    stl_row("read", name, n, ns);
+    let mut other = file.clone();
+    let ns = least(
+        RUNS,
+        || {
+            let written = reading::stl::write(black_box(&mesh), &mut file);
+            must(written.map_or_else(|refusal| refusal.number, |_| 0));
+        },
+        || must(raw::write_stl(black_box(&mesh), &mut other, &mut [0])),
+    );
+    stl_row("written", name, n, ns);
+}
+
+fn stl_row(what: &str, name: &str, n: usize, ns: [f64; 2]) {
+    let [first, second] = ns.map(|x| x / n as f64);
+    println!(
+        "| STL {what}, {name}, {n} triangles | {first:.1} | {second:.1} | {:.2} |",
+        second / first
+    );
+}
+
 /// How box tests grow with the mesh: the mean over rays from just above a
 /// triangle of the terrain towards a sun that stands high, and of the mixed
 /// rays of the first table.
@@ -404,6 +456,13 @@ fn main() {
     println!("|---|---:|---:|---:|");
     for (name, mesh) in &largest {
         accept_on(name, mesh, &mut r);
+    }
+
+    println!("\nns a triangle, binary STL; least of {RUNS} runs in turn.\n");
+    println!("| what | plain Rust | Pigeonmast | ratio |");
+    println!("|---|---:|---:|---:|");
+    for (name, mesh) in &largest {
+        stl_on(name, mesh);
     }
 
     println!("\nBox tests a ray, mean of {SKY}.\n");
