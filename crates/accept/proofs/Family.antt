@@ -3,16 +3,16 @@ use mathlib.Core.Path.{_≡_, refl, sym, _∙_, ap}
 use mathlib.Core.Bool.{Bool, true, false, not, _&&_, _||_, cond}
 use mathlib.Core.List.{List}
 use mathlib.Core.Logic.{_⊎_, inl, inr, ⊎-elim}
-use Prim.Native.Nat.{ℕ, zero, suc, _+_, _-_, _≤_, _<_}
+use Prim.Native.Nat.{ℕ, zero, suc, _-_, _≤_, _<_}
 use native.Mathlib.Omega.{arith}
 use lib.Dec.{eqb}
 use lib.ListN.{getD}
 use borrow.Author.Tests.{eq-eqb, ne-eqb, eqb-true, not-false}
 use Rattle.float.proofs.Cases.{same?}
 use Rattle.lent.specs.Limits.{most-nodes}
-use Rattle.tree.specs.Lent.{Lent, nodeCount}
+use Rattle.tree.specs.Lent.{Lent}
 use Rattle.tree.specs.Node.{nodeAt, linked, leftOf, rightOf}
-use Rattle.accept.specs.Lowest.{tick, any, count}
+use Rattle.accept.specs.Lowest.{tick, count}
 use Rattle.accept.specs.Conditions.{nodes, parent, breaks-2, reached}
 use Rattle.accept.specs.inner.Room.{several, parentAt, adopted, named, orphan, climbs}
 use Rattle.accept.proofs.Count.{count-more, count-same, count-one, any-one}

@@ -1,12 +1,12 @@
 -- Laws for the loops that fill, count and write down. Assumes nothing.
 use mathlib.Core.Path.{_≡_, refl, sym, _∙_, ap}
-use mathlib.Core.Bool.{Bool, true, false, not, _&&_, _||_, cond}
+use mathlib.Core.Bool.{Bool, true, false, _&&_, _||_, cond}
 use mathlib.Core.List.{List, [], _∷_, _++_}
 use mathlib.Core.Logic.{_⊎_, inl, inr, ⊎-elim}
-use Prim.Native.Nat.{ℕ, zero, suc, _+_, _*_, _-_, _≤_, _<_}
+use Prim.Native.Nat.{ℕ, zero, suc, _+_, _-_, _≤_, _<_}
 use native.Mathlib.Omega.{arith}
 use native.Mathlib.Numerals.{add-one}
-use lib.Dec.{leb, eqb}
+use lib.Dec.{eqb}
 use lib.ListN.{length, getD, set, take, replicate, length-set, length-replicate, getD-replicate, replicate-append-replicate}
 use lib.Ieee.{Float}
 use Rattle.aabb.specs.declared.bounds.Aabb.{Aabb}
@@ -14,7 +14,7 @@ use Rattle.aabb.specs.Bounds.{holds}
 use Rattle.triangle.specs.declared.Triangle.{Triangle}
 use Rattle.triangle.specs.declared.Corners.{Corners}
 use Rattle.triangle.specs.Mesh.{triangleAt, cornersOf}
-use lib.Seq.{take-all, take-suc-set, getD-set-same, getD-set-other, set-out}
+use lib.Seq.{take-all, take-suc-set, getD-set-same, getD-set-other}
 use borrow.Author.Tests.{eq-eqb, ne-eqb, le-leb, lt-leb}
 use Rattle.float.proofs.Cases.{same?}
 use Rattle.tree.specs.Lent.{nodeCount}

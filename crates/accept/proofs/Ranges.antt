@@ -1,14 +1,13 @@
 -- Condition (iv) by how many leaves begin and end at each place. Assumes nothing.
-use mathlib.Core.Path.{_≡_, refl, sym, _∙_, ap}
-use mathlib.Core.Bool.{Bool, true, false, not, _&&_, cond}
-use mathlib.Core.Logic.{_⊎_, inl, inr, ⊎-elim}
+use mathlib.Core.Path.{_≡_, refl, _∙_, ap}
+use mathlib.Core.Bool.{Bool, true, false, not, _&&_}
+use mathlib.Core.Logic.{⊎-elim}
 use Prim.Native.Nat.{ℕ, zero, suc, _+_, _≤_, _<_}
 use native.Mathlib.Omega.{arith}
 use lib.Dec.{leb, ltb, eqb}
-use borrow.Author.Tests.{eq-eqb, ne-eqb, eqb-true, eqb-false, not-false, lt-ltb, le-ltb, le-leb, lt-leb}
+use borrow.Author.Tests.{eq-eqb, ne-eqb, eqb-true, not-false, lt-ltb, le-ltb, le-leb, lt-leb}
 use Rattle.float.proofs.Cases.{same?, low-or-high}
-use mathlib.Core.List.{List}
-use Rattle.tree.specs.Lent.{Lent, nodeCount}
+use Rattle.tree.specs.Lent.{Lent}
 use Rattle.tree.specs.Node.{leftOrFirst, nodeAt, linked}
 use Rattle.tree.specs.Node.{nodeOf}
 use Rattle.accept.specs.Lowest.{tick, count, lowest}

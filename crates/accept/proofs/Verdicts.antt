@@ -12,7 +12,7 @@ use Rattle.accept.specs.declared.breach.Breach.the-variants.{At, Nowhere
 use Rattle.accept.specs.declared.Verdict.{Verdict}
 use Rattle.accept.specs.declared.Verdict.the-variants.{Accepted}
 use Rattle.accept.specs.Lowest.{lowest}
-use Rattle.accept.specs.Conditions.{nodes, meshed, breaks-1, breaks-2, breaks-3, breaks-4, breaks-5, breaks-6}
+use Rattle.accept.specs.Conditions.{nodes, meshed, breaks-1, breaks-2, breaks-3, breaks-5, breaks-6}
 use Rattle.accept.specs.inner.Room.{named, orphan, adrift, uneven}
 use Rattle.accept.specs.Accept.{broken as broken-at, else, lacking, from-2, from-3, from-4, from-5, from-6, judged, ruling, outcome}
 use Rattle.accept.proofs.Lowest.{agree, nowhere}

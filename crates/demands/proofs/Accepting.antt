@@ -9,7 +9,7 @@ use Rattle.builder.specs.Build.{built}
 use Rattle.lent.specs.Ladder.{triangleCount}
 use Rattle.tree.specs.Lent.{Lent, Labelled, lent, nodeCount}
 use Rattle.tree.specs.Tree.{Tree, leaves}
-use Rattle.tree.specs.Accepted.{Walkable, Accepted}
+use Rattle.tree.specs.Accepted.{Accepted}
 use Rattle.accept.specs.declared.Verdict.the-variants.{Accepted as Fine}
 use Rattle.accept.specs.Conditions.{foreign}
 use Rattle.accept.proofs.accept.Reads as accept-call

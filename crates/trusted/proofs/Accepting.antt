@@ -1,21 +1,19 @@
 -- Lists that break no condition hold a tree as rule G2 asks of one: the tree that grows from node 0. Assumes nothing.
-use mathlib.Core.Path.{_≡_, refl, sym, _∙_, ap, subst}
-use mathlib.Core.Bool.{Bool, true, false, not, _&&_}
+use mathlib.Core.Path.{_≡_, refl, sym, _∙_, subst}
+use mathlib.Core.Bool.{true, false, _&&_}
 use mathlib.Core.Logic.{⊎-elim}
 use Prim.Native.Nat.{ℕ, zero, suc, _+_, _<_}
 use native.Mathlib.Omega.{arith}
-use lib.Dec.{T, leb, ltb, eqb}
+use lib.Dec.{leb, ltb}
 use lib.ListN.{length}
 use borrow.Author.Tests.{eqb-true, not-false}
 use Rattle.lent.specs.Limits.{deepest}
-use Rattle.lent.specs.Permutation.{Perm, upTo}
 use Rattle.float.proofs.Cases.{same?, true-is, or-r, and-both}
 use Rattle.aabb.specs.Bounds.{bounded, isEmpty, usable, boxAt}
 use Rattle.tree.specs.Lent.{Lent}
-use Rattle.tree.specs.Node.{nodeAt, linked, nodeOf, leftOrFirst}
-use Rattle.tree.specs.Tree.{Tree, leaf}
-use Rattle.tree.specs.Holds.{ChildOf, OnlyChild}
-use Rattle.tree.specs.Accepted.{Walkable, Accepted}
+use Rattle.tree.specs.Node.{nodeAt, linked, nodeOf}
+use Rattle.tree.specs.Tree.{Tree}
+use Rattle.tree.specs.Accepted.{Accepted}
 use Rattle.tree.proofs.Fitted.{fitting}
 use Rattle.accept.specs.Lowest.{tick, count}
 use Rattle.accept.specs.Conditions.{nodes, meshed, single, parent, reached, breaks-2, breaks-3, covered, breaks-4}

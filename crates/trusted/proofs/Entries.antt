@@ -1,19 +1,19 @@
 -- An index list of which no entry breaks (v) and none is lacking has each triangle number once, and one that has breaks nothing. Assumes nothing.
-use mathlib.Core.Path.{_≡_, refl, sym, _∙_, ap, subst}
-use mathlib.Core.Bool.{Bool, true, false, _||_, cond}
-use mathlib.Core.List.{List, [], _∷_, _++_}
-use mathlib.Core.Logic.{_⊎_, inl, inr, ⊎-elim}
+use mathlib.Core.Path.{_≡_, refl, sym, _∙_, ap}
+use mathlib.Core.Bool.{Bool, true, false}
+use mathlib.Core.List.{List, [], _∷_}
+use mathlib.Core.Logic.{⊎-elim}
 use Prim.Native.Nat.{ℕ, zero, suc, _+_, _≤_, _<_}
 use native.Mathlib.Omega.{arith}
-use lib.Dec.{leb, ltb, eqb}
+use lib.Dec.{leb, eqb}
 use lib.ListN.{length, getD}
-use borrow.Author.Tests.{eq-eqb, ne-eqb, eqb-true, leb-false, lt-leb, lt-ltb, le-ltb}
+use borrow.Author.Tests.{eq-eqb, ne-eqb, eqb-true, leb-false, lt-leb}
 use Rattle.lent.specs.Permutation.{occurs, occ, Perm, upTo}
 use Rattle.lent.proofs.Permutation.{occurs-same, occurs-cases, occ-append, occ-at, up-below}
 use Rattle.float.proofs.Cases.{same?, low-or-high, neither}
 use Rattle.accept.specs.Lowest.{tick, any, count}
 use Rattle.accept.specs.Conditions.{misplaced}
-use Rattle.accept.proofs.Count.{count-same, any-none}
+use Rattle.accept.proofs.Count.{any-none}
 use Rattle.trusted.proofs.Sums.{sum, sum-same, sum-most, sum-ones, sum-turned, count-sum, share, sum-one, all-ones}
 
 turned-eqb : (a b : ℕ) → eqb a b ≡ eqb b a

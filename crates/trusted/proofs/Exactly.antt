@@ -2,7 +2,6 @@
 use mathlib.Core.Path.{_≡_, sym, _∙_, ap}
 use mathlib.Core.List.{List}
 use Prim.Native.Nat.{ℕ}
-use lib.ListN.{length, replicate}
 use Rattle.lent.specs.Limits.{deepest}
 use Rattle.tree.specs.Lent.{Lent}
 use Rattle.accept.specs.declared.Verdict.{Verdict}

@@ -2,23 +2,22 @@
 -- node that isn't reached in fewer than 63 - e steps has no nodes more than e levels below it, so that 63 levels are enough for each. Assumes nothing.
 use mathlib.Core.Path.{_≡_, refl, sym, _∙_, ap, subst}
 use mathlib.Core.Bool.{Bool, true, false, not, _&&_, _||_, cond, true≢false}
-use mathlib.Core.Logic.{_⊎_, inl, inr, ⊎-elim}
-use Prim.Native.Nat.{ℕ, zero, suc, _+_, _≤_, _<_, max}
+use mathlib.Core.Logic.{⊎-elim}
+use Prim.Native.Nat.{ℕ, zero, suc, _+_, _≤_, _<_}
 use native.Mathlib.Omega.{arith}
 use lib.Dec.{T, leb, ltb, eqb}
 use lib.ListN.{length}
 use borrow.Author.Tests.{eq-eqb, ne-eqb, eqb-true, not-false}
-use Rattle.float.proofs.Cases.{same?, true-is}
+use Rattle.float.proofs.Cases.{same?}
 use Rattle.lent.specs.Limits.{deepest}
-use Rattle.aabb.specs.declared.bounds.Aabb.{Aabb}
-use Rattle.aabb.specs.Bounds.{bounded, usable, contains, boxAt}
+use Rattle.aabb.specs.Bounds.{bounded, contains, boxAt}
 use Rattle.aabb.proofs.Holds.{bounded-usable}
 use Rattle.tree.specs.Lent.{Lent}
-use Rattle.tree.specs.Node.{leftOrFirst, nodeAt, linked, leftOf, rightOf}
+use Rattle.tree.specs.Node.{nodeAt, linked, leftOf, rightOf}
 use Rattle.tree.specs.Node.{nodeOf}
 use Rattle.tree.specs.Tree.{Tree, leaf, internal, boxOf, size, depth, held}
 use Rattle.tree.specs.Holds.{Holds, Nested, Finite, Occupied, covering, Snug}
-use Rattle.accept.specs.Lowest.{tick, any, count}
+use Rattle.accept.specs.Lowest.{tick, count}
 use Rattle.accept.specs.Conditions.{nodes, parent, breaks-2, reached, covered, holdsEach, encloses, breaks-6}
 use Rattle.accept.specs.inner.Room.{firstAt, countAt, kindAt, parentAt}
 use Rattle.accept.proofs.Count.{count-none, count-one, any-one}

@@ -1,14 +1,13 @@
 -- The call answers that the lists are accepted exactly where no check fails and no condition breaks. Assumes nothing.
 use mathlib.Core.Path.{_≡_, refl, sym, _∙_, ap}
-use mathlib.Core.Bool.{Bool, true, false, not, cond}
+use mathlib.Core.Bool.{Bool, true, false, cond}
 use mathlib.Core.List.{List}
 use Prim.Native.Nat.{ℕ, zero, suc, _+_, _%_, _≤_, _<_}
 use native.Mathlib.Omega.{arith}
-use lib.Dec.{T, ltb, eqb}
+use lib.Dec.{ltb, eqb}
 use lib.ListN.{length, replicate}
 use borrow.Author.Tests.{eqb-true, not-false, ltb-false, le-ltb}
 use Rattle.lent.specs.Limits.{most-triangles}
-use Rattle.lent.specs.Ladder.{Refusal, none, numbered}
 use Rattle.lent.proofs.Ladder.{all-passed, ends, goes, agree, not-below}
 use Rattle.triangle.specs.Mesh.{firstRefused}
 use Rattle.triangle.proofs.Admitting.{none-refused, all-admitted, none-unadmitted, none-bad}

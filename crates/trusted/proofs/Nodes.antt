@@ -1,13 +1,13 @@
 -- A tree as rule G2 asks of one has each node number once: a node but 0 stands in it as often as its parent, node 0 once, and they are as many as there
 -- are nodes. So what is summed over the tree is what is summed over the nodes. Assumes nothing.
 use mathlib.Core.Path.{_≡_, refl, sym, _∙_, ap, subst}
-use mathlib.Core.Bool.{Bool, true, false, cond}
+use mathlib.Core.Bool.{Bool, true, false}
 use mathlib.Core.Logic.{_⊎_, inl, inr, ⊎-elim}
 use Prim.Native.Nat.{ℕ, zero, suc, _+_, _*_, _≤_, _<_}
 use native.Mathlib.Nat.{add-mul, one-mul, zero-mul}
 use native.Mathlib.Omega.{arith}
 use lib.Dec.{eqb}
-use borrow.Author.Tests.{eq-eqb, ne-eqb, eqb-true}
+use borrow.Author.Tests.{eq-eqb, ne-eqb}
 use Rattle.float.proofs.Cases.{same?}
 use Rattle.tree.specs.Lent.{Lists, nodeCount}
 use Rattle.tree.specs.Node.{nodeOf, leftOf, rightOf}

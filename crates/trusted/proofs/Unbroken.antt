@@ -1,10 +1,10 @@
 -- Lists that hold a tree as rule G2 asks of one break no condition: each node stands in the tree, and what the tree has there the test of the node finds. Assumes nothing.
 use mathlib.Core.Path.{_≡_, refl, sym, _∙_, ap, subst}
-use mathlib.Core.Bool.{Bool, true, false, not, _&&_, _||_, cond}
-use mathlib.Core.Logic.{_⊎_, inl, inr, ⊎-elim}
-use Prim.Native.Nat.{ℕ, zero, suc, _+_, _≤_, _<_, max}
+use mathlib.Core.Bool.{Bool, true, false, not, _&&_, cond}
+use mathlib.Core.Logic.{inl, inr, ⊎-elim}
+use Prim.Native.Nat.{ℕ, suc, _+_, _≤_, _<_}
 use native.Mathlib.Omega.{arith}
-use lib.Dec.{T, leb, ltb, eqb}
+use lib.Dec.{T, eqb}
 use lib.ListN.{length}
 use lib.Ieee.Bits.{is-true}
 use borrow.Author.Tests.{eq-eqb, ne-eqb, le-ltb, lt-leb}
@@ -15,15 +15,15 @@ use Rattle.aabb.specs.Bounds.{bounded, isEmpty, contains, boxAt}
 use Rattle.tree.specs.Lent.{Lent}
 use Rattle.tree.specs.Node.{nodeAt, linked, nodeOf, leftOrFirst, leftOf, rightOf}
 use Rattle.tree.specs.Tree.{Tree, leaf, internal, boxOf, size, depth}
-use Rattle.tree.specs.Holds.{IsLeaf, Holds, Nested, Finite, Occupied, Bare, covering, Snug, ChildOf}
+use Rattle.tree.specs.Holds.{Holds, Nested, Finite, Occupied, Bare, covering, Snug}
 use Rattle.tree.specs.Accepted.{Accepted}
 use Rattle.tree.proofs.Fitted.{fitting}
 use Rattle.accept.specs.Lowest.{tick, count}
-use Rattle.accept.specs.Conditions.{nodes, meshed, single, parent, reached, covered, holdsEach, encloses, breaks-1, breaks-2, breaks-3, breaks-4, breaks-6}
-use Rattle.accept.specs.inner.Room.{firstAt, countAt, kindAt}
+use Rattle.accept.specs.Conditions.{nodes, meshed, single, parent, reached, covered, encloses, breaks-1, breaks-2, breaks-3, breaks-4, breaks-6}
+use Rattle.accept.specs.inner.Room.{firstAt, countAt}
 use Rattle.accept.proofs.Faults.{of-empty, of-mesh, of-leaf, of-inner}
 use Rattle.trusted.specs.Meets.{Meets}
-use Rattle.trusted.proofs.Sums.{sum, sum-same, sum-none, sum-one, share, count-sum}
+use Rattle.trusted.proofs.Sums.{sum-same, sum-none, sum-one, share, count-sum}
 use Rattle.trusted.proofs.Vertices.{held-each}
 use Rattle.trusted.proofs.Entries.{in-place}
 use Rattle.trusted.proofs.Family.{is-parent, no-parent}

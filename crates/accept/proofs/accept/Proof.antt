@@ -1,6 +1,5 @@
 -- Each return is the check of the ladder that fails, or the conditions' verdict with the room zeroed. Assumes nothing.
 use mathlib.Core.Path.{refl, sym, _∙_, ap}
-use mathlib.Core.List.{List}
 use Prim.Native.Nat.{ℕ}
 use lib.ListN.{replicate}
 use borrow.Author.Needs.{needs}

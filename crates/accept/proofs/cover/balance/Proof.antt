@@ -1,6 +1,6 @@
 -- After i nodes the room counts those below i. Assumes nothing.
-use mathlib.Core.Path.{_≡_, refl, sym, _∙_, ap}
-use Prim.Native.Nat.{ℕ, _-_, _≤_, _<_}
+use mathlib.Core.Path.{_≡_, refl, _∙_, ap}
+use Prim.Native.Nat.{_-_, _≤_}
 use native.Mathlib.Omega.{arith}
 use lib.ListN.{length, length-replicate}
 use Rattle.tree.specs.Lent.{nodeCount}

@@ -1,11 +1,10 @@
 -- Those from p on give the lowest of all. Assumes nothing.
-use mathlib.Core.Path.{_≡_, refl, sym, _∙_, ap}
+use mathlib.Core.Path.{_≡_, refl, sym, _∙_}
 use Prim.Native.Nat.{_-_}
 use native.Mathlib.Omega.{arith}
 use Rattle.accept.specs.Lowest.{lowest}
-use Rattle.accept.proofs.Lowest.{start, on, stop, end}
+use Rattle.accept.proofs.Lowest.{on, stop, end}
 use Prim.Native.Nat.{_≤_}
-use Rattle.tree.specs.Lent.{nodeCount}
 use Rattle.accept.specs.inner.Room.{uneven}
 use Rattle.accept.proofs.Fills.{uneven-yes, uneven-no}
 use borrow.Author.Needs.{needs}

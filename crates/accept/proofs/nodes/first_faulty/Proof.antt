@@ -1,7 +1,7 @@
 -- The empty mesh at node 0; else those from i on give the lowest of all. Assumes nothing.
 use mathlib.Core.Path.{_≡_, sym, _∙_, ap}
 use mathlib.Core.Bool.{not}
-use Prim.Native.Nat.{ℕ, _-_}
+use Prim.Native.Nat.{_-_}
 use native.Mathlib.Omega.{arith}
 use Rattle.tree.specs.Lent.{nodeCount}
 use Rattle.accept.specs.Lowest.{lowest}

@@ -1,5 +1,4 @@
 -- The tests of the definition, in its order. Assumes nothing.
-use mathlib.Core.Path.{sym, _∙_, ap}
 use borrow.Author.Tests.{eq-eqb, ne-eqb, not-true, not-false}
 use Rattle.tree.specs.Node.{nodeAt, linked}
 use Rattle.accept.specs.Conditions.{single}

@@ -1,8 +1,6 @@
 -- What is left of the way up gives the whole. Assumes nothing.
 use mathlib.Core.Path.{_≡_, refl, sym, _∙_, ap}
-use mathlib.Core.Bool.{true, false}
 use Prim.Native.Nat.{ℕ, _-_}
-use native.Mathlib.Omega.{arith}
 use Rattle.lent.specs.Limits.{deepest}
 use Rattle.accept.specs.inner.Room.{climbs}
 use Rattle.accept.proofs.Fills.{climb-there, climb-none, climb-on, climb-end}

@@ -1,5 +1,5 @@
 -- Those from j on give the lowest of all. Assumes nothing.
-use mathlib.Core.Path.{_≡_, sym, _∙_, ap}
+use mathlib.Core.Path.{_≡_, sym, _∙_}
 use Prim.Native.Nat.{_-_}
 use native.Mathlib.Omega.{arith}
 use Rattle.accept.specs.Lowest.{lowest}
