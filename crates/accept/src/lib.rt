@@ -1,4 +1,4 @@
-// Whether a tree that was built elsewhere can be walked as one of our own (section Q of docs/RULES.md). The Rust has none of it: it walks what it built.
+// Whether a tree that was built elsewhere can be walked as one of our own (section J of docs/RULES.md). The Rust has none of it: it walks what it built.
 mod breach; // breach.rt: where a condition breaks first
 mod nodes; // nodes.rt: condition (i)
 mod parents; // parents.rt: conditions (ii) and (iii)
