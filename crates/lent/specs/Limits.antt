@@ -16,3 +16,7 @@ deepest = 63
 -- Rule D7: the nodes that a walk keeps for later
 abbrev pub most-pending : ℕ
 most-pending = 64
+
+-- Rule D7: the placements of a street
+abbrev pub most-placements : ℕ
+most-placements = 1024

@@ -12,3 +12,6 @@ pub const DEEPEST: usize = 63;
 
 // Pending node numbers of a walk at most.
 pub const MOST_PENDING: usize = 64;
+
+// Placements of a street at most.
+pub const MOST_PLACEMENTS: usize = 1024;

@@ -18,7 +18,7 @@ ghost use Rattle.float.specs.Root.{root};
 ghost use Rattle.aabb.specs.Vector.{rayAt, vectorAt};
 ghost use Rattle.aabb.specs.Bounds.{boxAt};
 ghost use Rattle.aabb.specs.Slab.{slab};
-ghost use Rattle.triangle.specs.Mesh.{triangleAt};
+ghost use Rattle.triangle.specs.Mesh.{triangleAt, triangleNumbers};
 ghost use Rattle.triangle.specs.Meeting.{strike};
 ghost use Rattle.triangle.specs.Normal.{newTriangle};
 ghost use Rattle.triangle.specs.Refilled.{refillRefusal, refilled};
@@ -28,7 +28,7 @@ ghost use Rattle.tree.specs.Lent.{lent};
 ghost use Rattle.walk.specs.Answer.{told as answered};
 ghost use Rattle.walk.specs.Walk as scene;
 ghost use Rattle.sky.specs.Sky.{skyRefusal, sky as filled};
-ghost use Rattle.pigeonmast.specs.Report.{abi, hitNumbers, frontNumber, sideNumber, refusalNumber, refusalAt, build, buildTold, buildReport, walk, walked, sky, skyReport, test, slabReport, triangleReport, triangleNumbers, normals, normalsReport};
+ghost use Rattle.pigeonmast.specs.Report.{abi, hitNumbers, frontNumber, sideNumber, refusalNumber, refusalAt, build, buildTold, buildReport, walk, walked, sky, skyReport, test, slabReport, triangleReport, normals, normalsReport};
 
 // A hit's seven numbers: t, point, normal.
 fn hit_numbers(hit: Hit) -> [f64; 7]

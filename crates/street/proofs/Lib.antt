@@ -1,0 +1,4 @@
+mod Matrices
+mod Searching
+pub mod ProxyRoom
+mod Raising
