@@ -2,3 +2,5 @@ mod Matrices
 mod Searching
 pub mod ProxyRoom
 mod Raising
+pub mod Sizes
+pub mod Topping
