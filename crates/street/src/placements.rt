@@ -42,12 +42,12 @@ pub fn judge(matrices: &[f64], inverses: &[f64]) -> Standing
 fn first_bad(matrices: &[f64], inverses: &[f64], m: usize) -> Lowest
     ensures { λ r. ⌜ r ≡ lowest (goodAt (now (matrices .entry)) (now (inverses .entry))) 0 m ⌝ }
 {
-    let mut i: usize = 0;
-    while i < m {
-        if good_at(matrices, inverses, i) {
-            i += 1;
+    let mut at: usize = 0;
+    while at < m {
+        if good_at(matrices, inverses, at) {
+            at += 1;
         } else {
-            return Lowest::At(i);
+            return Lowest::At(at);
         }
     }
     Lowest::Nothing
