@@ -213,8 +213,8 @@ module _ (mesh : List Float) (index : List ℕ) (boxes : List Float) (links : Li
   all-nodes : length L′ / 3 ≡ size t
   all-nodes = omega (arith, link-count)
 
-  its-lists : Accepted (lent mesh (s .grown .ids) B′ L′) t
-  its-lists =
+  its-lists : (materials : List ℕ) → Accepted (lent mesh materials (s .grown .ids) B′ L′) t
+  its-lists materials =
       let a = link-count in
       let b = box-count in
       let c = small in
@@ -253,9 +253,9 @@ module _ (mesh : List Float) (index : List ℕ) (boxes : List Float) (links : Li
   given-is : listsOf (take (length mesh / 12) (o .index)) (take (nodes * 6) (o .boxes)) (take (nodes * 3) (o .links)) ≡ listsOf (s .grown .ids) B′ L′
   given-is = rw (index-taken, taken-boxes, taken-links)
 
-  -- what is handed over: the first n entries and the first 2L-1 nodes
-  pub accepted : Accepted (lent mesh (take (length mesh / 12) (o .index)) (take (nodes * 6) (o .boxes)) (take (nodes * 3) (o .links))) t
-  accepted = subst⁻¹ (λ (l : Lists). Accepted (record { mesh = meshOf mesh; tree = l }) t) given-is its-lists
+  -- what is handed over: the first n entries and the first 2L-1 nodes; whatever the materials are
+  pub accepted : (materials : List ℕ) → Accepted (lent mesh materials (take (length mesh / 12) (o .index)) (take (nodes * 6) (o .boxes)) (take (nodes * 3) (o .links))) t
+  accepted materials = subst⁻¹ (λ (l : Lists). Accepted (record { mesh = meshOf mesh materials; tree = l }) t) given-is (its-lists materials)
 
   -- and leaf ranges are in order
   pub in-order : Runs 0 (length (take (length mesh / 12) (o .index))) t

@@ -89,6 +89,7 @@ use Rattle.tree.proofs.Node.sound.Reads as node-sound
 use Rattle.tree.proofs.Node.left.Reads as node-left
 use Rattle.tree.proofs.Node.right.Reads as node-right
 use Rattle.tree.proofs.misfit.Reads as tree-misfit
+use Rattle.tree.proofs.word.Reads as tree-word
 use Rattle.triangle.proofs.refill_normals.Reads as triangle-refill-normals
 use Rattle.builder.proofs.build.Reads as builder-build
 use Rattle.builder.proofs.room.Reads as builder-room
@@ -117,8 +118,8 @@ pub triangle-fixed : Fixes triangle-read.Post × Fixes triangle-aabb.Post × Fix
 triangle-fixed = (fixed, fixed, fixed, fixed, fixed, fixed, fixed, fixed, fixed, fixed, fixed, fixed, fixed, fixed, fixed, fixed)
 
 -- the calls of `tree`
-pub tree-fixed : Fixes node-read.Post × Fixes node-sound.Post × Fixes node-left.Post × Fixes node-right.Post × Fixes tree-misfit.Post
-tree-fixed = (fixed, fixed, fixed, fixed, fixed)
+pub tree-fixed : Fixes node-read.Post × Fixes node-sound.Post × Fixes node-left.Post × Fixes node-right.Post × Fixes tree-misfit.Post × Fixes tree-word.Post
+tree-fixed = (fixed, fixed, fixed, fixed, fixed, fixed)
 
 -- the answer, and the mesh at the end
 refill-same : (a b : Refill) (x y : List Float) → refilling (refillRefusal a) x ≡ refilling (refillRefusal b) y → _≡_ {A = Refill × List Float} (a, x) (b, y)
@@ -161,7 +162,7 @@ walk-fixed = record { same = λ κs x r r' e e' p q. told-fixes r r' (p ∙ sym 
 sky-same : (a b : Filled) (x y : List Float) (k l : List ℕ) → filling (skyRefusal a) x k ≡ filling (skyRefusal b) y l → _≡_ {A = Filled × List Float × List ℕ} (a, x, k) (b, y, l)
 sky-same a b x y k l e = let t = sky-told a b (ap (λ (o : Filling). o .refusal) e) in λ z. (t z, e z .times, e z .told)
 
-pub sky-fixed : FixesAll sky-sky.Post {C = Filled × List Float × List ℕ} (λ κs r e. (r, e .1 .1 .1 .1 .1 .0 .now, e .1 .1 .1 .1 .1 .1 .0 .now))
+pub sky-fixed : FixesAll sky-sky.Post {C = Filled × List Float × List ℕ} (λ κs r e. (r, e .1 .1 .1 .1 .1 .1 .0 .now, e .1 .1 .1 .1 .1 .1 .1 .0 .now))
 sky-fixed κs x r r' e e' p q = sky-same r r' _ _ _ _ (p ∙ sym q)
 
 -- the calls of `street`, but for `make`

@@ -7,4 +7,5 @@ pub mod NearestHit
 pub mod SameHit
 pub mod Demand
 pub mod Sky
+pub mod Materials
 pub mod Surveying

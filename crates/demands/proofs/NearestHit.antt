@@ -27,7 +27,7 @@ use Rattle.triangle.specs.Meeting.{distance, hitAt, found, strike}
 use Rattle.triangle.proofs.Finite.{strike-finite}
 use Rattle.walk.specs.declared.tally.Nearest.{Nearest}
 use Rattle.walk.specs.declared.tally.Nearest.the-variants.{Unmet, Met}
-use Rattle.tree.specs.Lent.{Mesh, Lent}
+use Rattle.tree.specs.Lent.{Mesh, Lent, Labelled, materialOf}
 use Rattle.walk.specs.Walk.{replaces as replaces-by, nearer as nearer-by, after, hitOf, over, walk}
 use Rattle.tree.specs.Tree.{Tree, leaf, internal}
 use Rattle.tree.specs.Holds.{Holds}
@@ -54,7 +54,7 @@ abbrev nearest : Lent → Ray → Found → List ℕ → Found
 nearest s r best [] = best
 nearest s r best (p ∷ ps) = nearest s r (nearer best (finds s r p)) ps
 
-same-replaces : (m : Mesh) (r : Ray) (b : Nearest) (k : ℕ) (t : Float) → replaces (hitOf m r b) (hitAt r (triangleAt (m .triangles) k) k t) ≡ replaces-by b k t
+same-replaces : (m : Mesh) (r : Ray) (b : Nearest) (k : ℕ) (t : Float) → replaces (hitOf m r b) (hitAt r (triangleAt (m .triangles) k) k (materialOf m k) t) ≡ replaces-by b k t
 unfolding hitOf hitAt
 same-replaces m r Unmet k t = refl
 same-replaces m r (Met u j) k t = refl
@@ -63,7 +63,7 @@ same-cond : (m : Mesh) (r : Ray) (q : Bool) (a b : Nearest) → hitOf m r (cond 
 same-cond m r true a b = refl
 same-cond m r false a b = refl
 
-same-nearer : (m : Mesh) (r : Ray) (b : Nearest) (k : ℕ) (d : Distance) → hitOf m r (nearer-by b k d) ≡ nearer (hitOf m r b) (found r (triangleAt (m .triangles) k) k d)
+same-nearer : (m : Mesh) (r : Ray) (b : Nearest) (k : ℕ) (d : Distance) → hitOf m r (nearer-by b k d) ≡ nearer (hitOf m r b) (found r (triangleAt (m .triangles) k) k (materialOf m k) d)
 unfolding nearer-by nearer found
 same-nearer m r b k None = refl
 same-nearer m r b k (To t) = same-cond m r (replaces-by b k t) (Met t k) b ∙ rw (same-replaces m r b k t) (unfold hitOf in refl)
@@ -253,10 +253,10 @@ in-index s r (leaf b p c) i H = all-cond _ (passes r b) (rangeOf c p) (all-range
 in-index s r (internal b u v) i H = all-append _ (reached r u) (reached r v) (in-index s r u _ (H .1)) (in-index s r v _ (H .2))
 
 pub all-finite : (s : Lent) (r : Ray) → T (admittedRay r) → (ps : List ℕ) → Every (Admitted s) ps → Every (Finite s r) ps
-all-finite s r R ps a = all-map (λ p h g e. let k = getD (s .tree .index) p 0 in strike-finite r (triangleAt (s .mesh .triangles) k) R h k g e) ps a
+all-finite s r R ps a = all-map (λ p h g e. let k = getD (s .tree .index) p 0 in strike-finite r (triangleAt (s .mesh .triangles) k) R h k (materialOf (s .mesh) k) g e) ps a
 
 -- ---- the theorems, of an accepted tree
-module _ (s : Lent) (t : Tree) (r : Ray) (A : Walkable s t) (R : T (admittedRay r)) where
+module _ (s : Lent) (t : Tree) (r : Ray) (A : Walkable s t) (M : Labelled (s .mesh)) (R : T (admittedRay r)) where
   pub reached-admitted : Every (Admitted s) (reached r t)
   reached-admitted = all-map (λ p h. A .admitted (getD (s .tree .index) p 0) (A .entries p h)) (reached r t) (in-index s r t 0 (A .holds))
 
@@ -265,7 +265,7 @@ module _ (s : Lent) (t : Tree) (r : Ray) (A : Walkable s t) (R : T (admittedRay 
 
   pub walk-hit : walk s r .hit ≡ hitAmong s r (reached r t)
   unfolding over
-  walk-hit = ap (λ w. w .hit) (walked s t r A R)
+  walk-hit = ap (λ w. w .hit) (walked s t r A M R)
 
   -- the hit is the nearest of those at the places that are reached, the lowest triangle number winning a tie
   pub walk-nearest : (h : Hit) → walk s r .hit ≡ At h → NearestAt s r (reached r t) h

@@ -35,7 +35,7 @@ holds (slabbed r b s) = sameSpan (slab r b) s
 holds (slabbedRoot mesh r s) = sameSpan (slab r (rootBox mesh)) s
 holds (split mesh d) = sameSplit (decision mesh (upTo (triangleCount mesh))) d
 holds (built-row mesh o) = sameOutcome (builtWhole mesh) o
-holds (walked mesh r t) = sameTold (walk (handed mesh (builtWhole mesh)) r) t
+holds (walked mesh materials r t) = sameTold (walk (handed mesh materials (builtWhole mesh)) r) t
 
 abbrev allHold : List Probe → Bool
 allHold [] = true
@@ -46,7 +46,7 @@ claim (slabbed r b s) h = span-is (slab r b) s h
 claim (slabbedRoot mesh r s) h = span-is (slab r (rootBox mesh)) s h
 claim (split mesh d) h = split-is (decision mesh (upTo (triangleCount mesh))) d h
 claim (built-row mesh o) h = outcome-is (builtWhole mesh) o h
-claim (walked mesh r t) h = told-is (walk (handed mesh (builtWhole mesh)) r) t h
+claim (walked mesh materials r t) h = told-is (walk (handed mesh materials (builtWhole mesh)) r) t h
 
 claims : (ps : List Probe) → T (allHold ps) → All ps
 claims [] h = tt

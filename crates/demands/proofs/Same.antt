@@ -115,7 +115,7 @@ vector-is : (a b : Vec3) → T (sameVector a b) → a ≡ b
 vector-is a b h = congruent3 vec (float-is (a .x) (b .x) (search (and-l, and-r))) (float-is (a .y) (b .y) (search (and-l, and-r))) (float-is (a .z) (b .z) (search (and-l, and-r)))
 
 abbrev sameHit : Hit → Hit → Bool
-sameHit a b = sameFloat (a .t) (b .t) && (sameVector (a .point) (b .point) && (sameVector (a .normal) (b .normal) && (Bool·beq (a .front) (b .front) && eqb (a .triangle) (b .triangle))))
+sameHit a b = sameFloat (a .t) (b .t) && (sameVector (a .point) (b .point) && (sameVector (a .normal) (b .normal) && (Bool·beq (a .front) (b .front) && (eqb (a .triangle) (b .triangle) && eqb (a .material) (b .material)))))
 
 hit-is : (a b : Hit) → T (sameHit a b) → a ≡ b
 hit-is a b h =
@@ -124,10 +124,11 @@ hit-is a b h =
     let r = vector-is (a .normal) (b .normal) (search (and-l, and-r)) in
     let s = bool-is (a .front) (b .front) (search (and-l, and-r)) in
     let k = eqb→eq (a .triangle) (b .triangle) (search (and-l, and-r)) in
-    five p q r s k
+    let m = eqb→eq (a .material) (b .material) (search (and-l, and-r)) in
+    all p q r s k m
   where
-    five : {t t' : Float} {p p' n n' : Vec3} {f f' : Bool} {k k' : ℕ} → t ≡ t' → p ≡ p' → n ≡ n' → f ≡ f' → k ≡ k' → hit t p n f k ≡ hit t' p' n' f' k'
-    five a b c d e = rw (a, b, c, d, e)
+    all : {t t' : Float} {p p' n n' : Vec3} {f f' : Bool} {k k' m m' : ℕ} → t ≡ t' → p ≡ p' → n ≡ n' → f ≡ f' → k ≡ k' → m ≡ m' → hit t p n f k m ≡ hit t' p' n' f' k' m'
+    all a b c d e f = rw (a, b, c, d, e, f)
 
 abbrev sameFound : Found → Found → Bool
 sameFound Nothing Nothing = true

@@ -1,6 +1,6 @@
 -- The hit depends on which triangles stand at the places that are reached, and not on the order of the places nor on how often one is met: of two hits
 -- that are each ahead of the other the numbers are equal, and a number and a ray tell the hit. Assumes nothing.
-use mathlib.Core.Path.{_≡_, refl, sym, ap, _∙_}
+use mathlib.Core.Path.{_≡_, refl, sym, ap, subst, _∙_}
 use mathlib.Core.Logic.{_⊎_, inl, inr}
 use mathlib.Core.Bool.{Bool, true, false, cond}
 use mathlib.Core.List.{List, [], _∷_, _++_}
@@ -20,7 +20,7 @@ use Rattle.triangle.specs.declared.Distance.{Distance}
 use Rattle.triangle.specs.declared.Distance.the-variants.{To, None}
 use Rattle.triangle.specs.Mesh.{triangleAt}
 use Rattle.triangle.specs.Meeting.{distance, hitAt, found, strike}
-use Rattle.tree.specs.Lent.{Mesh, Lent}
+use Rattle.tree.specs.Lent.{Mesh, Lent, Labelled, materialOf}
 use Rattle.walk.specs.Walk.{walk}
 use Rattle.tree.specs.Tree.{Tree, leaf, internal}
 use Rattle.tree.specs.Holds.{Holds}
@@ -69,22 +69,22 @@ all-one P (q ∷ ps) a p (inl i) = rw i (a .0)
 all-one P (q ∷ ps) a p (inr i) = all-one P ps (a .1) p i
 
 -- ---- a number and a ray tell the hit
-found-number : (r : Ray) (a : Triangle) (k : ℕ) (d : Distance) (h : Hit) → found r a k d ≡ At h → h .triangle ≡ k
+found-number : (r : Ray) (a : Triangle) (k m : ℕ) (d : Distance) (h : Hit) → found r a k m d ≡ At h → h .triangle ≡ k
 unfolding found hitAt
-found-number r a k None h e = absurd (nowhere e)
-found-number r a k (To t) h e = go (hitAt r a k t) refl e
+found-number r a k m None h e = absurd (nowhere e)
+found-number r a k m (To t) h e = go (hitAt r a k m t) refl e
   where
     go : (x : Hit) → x .triangle ≡ k → At x ≡ At h → h .triangle ≡ k
     go x i e = let j : x ≡ h = cc in rw (← j) i
 
-abbrev strikes : List Float → Ray → ℕ → Found
-strikes mesh r k = strike r (triangleAt mesh k) k
+abbrev strikes : Mesh → Ray → ℕ → Found
+strikes m r k = strike r (triangleAt (m .triangles) k) k (materialOf m k)
 
-strike-number : (mesh : List Float) (r : Ray) (k : ℕ) (h : Hit) → strikes mesh r k ≡ At h → h .triangle ≡ k
+strike-number : (mesh : Mesh) (r : Ray) (k : ℕ) (h : Hit) → strikes mesh r k ≡ At h → h .triangle ≡ k
 unfolding strike
-strike-number mesh r k h e = found-number r (triangleAt mesh k) k (distance r (triangleAt mesh k)) h e
+strike-number mesh r k h e = found-number r (triangleAt (mesh .triangles) k) k (materialOf mesh k) (distance r (triangleAt (mesh .triangles) k)) h e
 
-both-ahead : (mesh : List Float) (r : Ray) (j k : ℕ) (g h : Hit) → strikes mesh r j ≡ At g → strikes mesh r k ≡ At h → Ahead g h → Ahead h g → g ≡ h
+both-ahead : (mesh : Mesh) (r : Ray) (j k : ℕ) (g h : Hit) → strikes mesh r j ≡ At g → strikes mesh r k ≡ At h → Ahead g h → Ahead h g → g ≡ h
 both-ahead mesh r j k g h e f a b =
     let i : j ≡ k = let p = strike-number mesh r j g e in let q = strike-number mesh r k h f in let l = a .1 (b .0) in let m = b .1 (a .0) in omega (arith, p, q, l, m) in
     let w : At g ≡ At h = sym e ∙ ap (strikes mesh r) i ∙ f in
@@ -109,7 +109,7 @@ module _ (s s′ : Lent) (r : Ray) (mesh : s .mesh ≡ s′ .mesh) (ps qs : List
       let v = some-one (λ (p : ℕ). finds s r p ≡ f) ps w in
       let k = getD (s .tree .index) (v .0) 0 in
       let u = number-at s′ qs k (U k (at-number s ps (v .0) (v .1))) in
-      (u .0, u .1, ap (strikes (s′ .mesh .triangles) r) (u .2) ∙ ap (λ (m : Mesh). strikes (m .triangles) r k) (sym mesh) ∙ v .2)
+      (u .0, u .1, ap (strikes (s′ .mesh) r) (u .2) ∙ ap (λ (m : Mesh). strikes m r k) (sym mesh) ∙ v .2)
 
   -- so a hit at ps is no miss at qs
   no-miss : (h : Hit) → NearestAt s r ps h → Every (NothingAt s′ r) qs → ⊥
@@ -141,7 +141,7 @@ same-nearest s s′ r ps qs mesh R F G same = go (hitAmong s r ps) (hitAmong s�
         let m = nearest-at s′ r qs Q g j in
         let u = some-one (λ (p : ℕ). finds s r p ≡ At h) ps (n .found) in
         let w = found-too s′ s r (sym mesh) qs ps (same .1) (At g) (m .found) in
-        ap At (both-ahead (s .mesh .triangles) r (getD (s .tree .index) (u .0) 0) (getD (s .tree .index) (w .0) 0) h g (u .2) (w .2)
+        ap At (both-ahead (s .mesh) r (getD (s .tree .index) (u .0) 0) (getD (s .tree .index) (w .0) 0) h g (u .2) (w .2)
         (is-ahead s′ s r (sym mesh) qs ps (same .1) g h m n) (is-ahead s s′ r mesh ps qs (same .0) h g n m))
 
 -- ---- the numbers that are reached are those of the leaves whose boxes are passed
@@ -190,13 +190,16 @@ reached-too s s′ t t′ r L k h =
     to-leaf s′ r k t′ (one-some (Holding s′ r k) (leavesOf (s′ .tree) t′) (v .0) (v .1) ((rw (← v .2 .0) (w .2 .0), v .2 .1 .0 k (w .2 .1))))
 
 -- ---- the theorems, of two walkable trees over one mesh
-module _ (s s′ : Lent) (t t′ : Tree) (r : Ray) (mesh : s .mesh ≡ s′ .mesh) (A : Walkable s t) (B : Walkable s′ t′) (R : T (admittedRay r)) where
+module _ (s s′ : Lent) (t t′ : Tree) (r : Ray) (mesh : s .mesh ≡ s′ .mesh) (A : Walkable s t) (B : Walkable s′ t′) (M : Labelled (s .mesh)) (R : T (admittedRay r)) where
+  N : Labelled (s′ .mesh)
+  N = subst Labelled mesh M
+
   -- the ray reaches the same triangles in both, in whatever order: the same hit
   pub same-hit : SameNumbers (numbers (s .tree) (reached r t)) (numbers (s′ .tree) (reached r t′)) → walk s r .hit ≡ walk s′ r .hit
   same-hit same =
-      walk-hit s t r A R
-      ∙ same-nearest s s′ r (reached r t) (reached r t′) mesh R (reached-admitted s t r A R) (reached-admitted s′ t′ r B R) same
-      ∙ sym (walk-hit s′ t′ r B R)
+      walk-hit s t r A M R
+      ∙ same-nearest s s′ r (reached r t) (reached r t′) mesh R (reached-admitted s t r A M R) (reached-admitted s′ t′ r B N R) same
+      ∙ sym (walk-hit s′ t′ r B N R)
 
   -- the leaves are the same, in whatever order they are walked and whatever the order of the index list within each: the same hit
   pub same-leaves-hit : SameLeaves (leavesOf (s .tree) t) (leavesOf (s′ .tree) t′) → walk s r .hit ≡ walk s′ r .hit
@@ -256,5 +259,5 @@ same-within s index (internal b u v) w =
         go (inr j) = some-right (SameLeaf x) c d (g x j)
 
 -- the order of the index list within leaves does not matter
-pub reordered-hit : (s : Lent) (index : List ℕ) (t : Tree) (r : Ray) → Walkable s t → Reordered s index t → T (admittedRay r) → walk s r .hit ≡ walk (withIndex s index) r .hit
-reordered-hit s index t r A O R = same-leaves-hit s (withIndex s index) t t r refl A (walkable-with s index t A O) R (same-within s index t (O .within))
+pub reordered-hit : (s : Lent) (index : List ℕ) (t : Tree) (r : Ray) → Walkable s t → Labelled (s .mesh) → Reordered s index t → T (admittedRay r) → walk s r .hit ≡ walk (withIndex s index) r .hit
+reordered-hit s index t r A M O R = same-leaves-hit s (withIndex s index) t t r refl A (walkable-with s index t A O) M R (same-within s index t (O .within))

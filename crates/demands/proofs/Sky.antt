@@ -16,7 +16,7 @@ use Rattle.builder.specs.Reply.{servedReply}
 use Rattle.builder.specs.Build.{built}
 use Rattle.sky.specs.declared.Place.{Place}
 use Rattle.tree.specs.Lent.{Lent}
-use Rattle.lent.specs.Ladder.{none}
+use Rattle.lent.specs.Ladder.{none, triangleCount}
 use Rattle.walk.specs.Answer.{Told}
 use Rattle.walk.specs.Walk.{walk}
 use Rattle.tree.specs.Tree.{Tree}
@@ -25,14 +25,14 @@ use Rattle.sky.proofs.Room.{place-k, served}
 use Rattle.demands.specs.Handed.{handed}
 use Rattle.demands.specs.Demand.{Demand3}
 use Rattle.demands.specs.Sky.{Demand3At, SignedSky}
-use Rattle.demands.proofs.Demand.{built-walk}
+use Rattle.demands.proofs.Demand.{labelled, built-walk}
 
 -- ---- what a place tells of a walk that is served
-hit-place : (a : Told) (h : Hit) → a .refusal ≡ none → a .hit ≡ At h → placeOf a ≡ record { outcome = 100; which = h .triangle; t = h .t; boxes = a .boxes; triangles = a .triangles }
+hit-place : (a : Told) (h : Hit) → a .refusal ≡ none → a .hit ≡ At h → placeOf a ≡ record { outcome = 100; which = h .triangle; t = h .t; boxes = a .boxes; triangles = a .triangles; material = h .material }
 unfolding placeOf placed
 hit-place a h e f = rw (e, f)
 
-miss-place : (a : Told) → a .refusal ≡ none → a .hit ≡ Nothing → placeOf a ≡ record { outcome = 0; which = 0; t = nought; boxes = a .boxes; triangles = a .triangles }
+miss-place : (a : Told) → a .refusal ≡ none → a .hit ≡ Nothing → placeOf a ≡ record { outcome = 0; which = 0; t = nought; boxes = a .boxes; triangles = a .triangles; material = 0 }
 unfolding placeOf placed
 miss-place a e f = rw (e, f)
 
@@ -49,7 +49,7 @@ module _ (s : Lent) (t : Tree) (r : Ray) (D : Demand3 s t r) where
         triangle-tests = tests ∙ D .triangle-tests;
         most-boxes = omega (arith, boxes, D .most-boxes);
         most-triangles = omega (arith, tests, D .most-triangles);
-        hit = λ o. record { hit = h; triangle = ap (λ (p : Place). p .which) q; t-is = ap (λ (p : Place). p .t) q; nearest = D .hit h e };
+        hit = λ o. record { hit = h; triangle = ap (λ (p : Place). p .which) q; t-is = ap (λ (p : Place). p .t) q; material = ap (λ (p : Place). p .material) q; nearest = D .hit h e };
         no-hit = λ o. absurd (omega (arith, out, o));
       }
   by-hit Nothing e =
@@ -71,18 +71,18 @@ module _ (s : Lent) (t : Tree) (r : Ray) (D : Demand3 s t r) where
   demand-3-at p e = rw e (by-hit (walk s r .hit) refl)
 
 -- ---- a built tree
-module _ (mesh : List Float) (index : List ℕ) (boxes : List Float) (links : List ℕ) (nodes leaf-count : ℕ) (rays times : List Float) (told : List ℕ) where
+module _ (mesh : List Float) (materials index : List ℕ) (boxes : List Float) (links : List ℕ) (nodes leaf-count : ℕ) (rays times : List Float) (told : List ℕ) where
   abbrev s : Lent
-  s = handed mesh (built mesh index boxes links)
+  s = handed mesh materials (built mesh index boxes links)
 
-  -- Rule G4: an unchanged built tree over its own triangles, rays in sixes, answer room that suffices, and each ray that is admitted, whatever the others are.
-  pub built-sky : built mesh index boxes links .answer ≡ servedReply nodes leaf-count → length rays % 6 ≡ 0 → rayCount rays ≤ length times → rayCount rays * 4 ≤ length told
+  -- Rule G4: an unchanged built tree over its own triangles, a material for each, rays in sixes, answer room that suffices, and each ray that is admitted, whatever the others are.
+  pub built-sky : built mesh index boxes links .answer ≡ servedReply nodes leaf-count → length materials ≡ triangleCount mesh → length rays % 6 ≡ 0 → rayCount rays ≤ length times → rayCount rays * 5 ≤ length told
       → SignedSky s nodes leaf-count rays (sky s rays times told)
-  built-sky e sixes timed roomy =
-      let w = built-walk mesh index boxes links nodes leaf-count e in
+  built-sky e named sixes timed roomy =
+      let w = built-walk mesh materials index boxes links nodes leaf-count e named in
       let W = w .accepted .walkable in
       let o = sky s rays times told in
-      let is : o .refusal ≡ none = served s rays times told (W .whole) (W .few) sixes timed roomy in
+      let is : o .refusal ≡ none = served s rays times told (W .whole) (W .few) (labelled mesh materials index boxes links nodes leaf-count e named) sixes timed roomy in
       record {
         signed = w;
         served = is;

@@ -1,9 +1,9 @@
 -- The survey walks a built tree, handed over as demand 3 has it: its mesh has the n triangles of the input, so that its lists are `handed`. Assumes nothing.
-use mathlib.Core.Path.{_≡_, refl, ap, _∙_}
+use mathlib.Core.Path.{_≡_, refl, sym, ap, _∙_}
 use mathlib.Core.List.{List, [], _∷_, _++_}
 use Prim.Native.Nat.{ℕ, zero, suc, _+_, _*_, _/_}
 use native.Mathlib.Omega.{arith}
-use lib.ListN.{length, replicate, length-append}
+use lib.ListN.{length, replicate, length-append, length-replicate}
 use lib.Ieee.{Float}
 use Rattle.float.specs.Number.{nought}
 use Rattle.lent.specs.Ladder.{Refusal, none, triangleCount}
@@ -31,7 +31,7 @@ module _ (bytes : List ℕ) (n m : ℕ) (good : measured bytes ≡ Good n m) whe
   counted : triangleCount mesh ≡ n
   counted = ap (λ (k : ℕ). k / 12) (numbers-length bytes trianglesAt (n * 12)) ∙ omega arith
 
-  handed-same : (o : Outcome) → o .answer .refusal ≡ none → surveyHanded mesh n (o .answer .nodes) o ≡ handed mesh o
+  handed-same : (o : Outcome) → o .answer .refusal ≡ none → surveyHanded mesh n (o .answer .nodes) o ≡ handed mesh (replicate n 0) o
   unfolding surveyHanded handed handedAs
   handed-same o e = rw (e, counted)
 
@@ -43,9 +43,9 @@ module _ (bytes : List ℕ) (n m : ℕ) (good : measured bytes ≡ Good n m) whe
   unfolding reportOf
   lines o w e = rw e
 
-  signs : builtOf mesh .answer .refusal ≡ none → Signed (handed mesh (builtOf mesh)) (builtOf mesh .answer .nodes) (builtOf mesh .answer .leaves)
+  signs : builtOf mesh .answer .refusal ≡ none → Signed (handed mesh (replicate n 0) (builtOf mesh)) (builtOf mesh .answer .nodes) (builtOf mesh .answer .leaves)
   unfolding builtOf
-  signs e = built-walk mesh (replicate 200 0) (replicate 2394 nought) (replicate 1197 0) (builtOf mesh .answer .nodes) (builtOf mesh .answer .leaves) (served-reply (builtOf mesh .answer) e)
+  signs e = built-walk mesh (replicate n 0) (replicate 200 0) (replicate 2394 nought) (replicate 1197 0) (builtOf mesh .answer .nodes) (builtOf mesh .answer .leaves) (served-reply (builtOf mesh .answer) e) (let l : length {A = ℕ} (replicate n 0) ≡ n = length-replicate n 0 in l ∙ sym counted)
 
   -- Demand 3 reads for each line of the survey whose build is served
   pub survey-walk : builtOf mesh .answer .refusal ≡ none → SignedSurvey bytes n m mesh (builtOf mesh)

@@ -22,7 +22,7 @@ use Rattle.walk.specs.declared.tally.Tally.{Tally}
 use Rattle.walk.specs.declared.turn.Turn.{Turn}
 use Rattle.walk.specs.declared.turn.Turn.the-variants.{Missed, Down, Open}
 use Rattle.tree.specs.declared.Node.{Node}
-use Rattle.tree.specs.Lent.{Lent, nodeCount}
+use Rattle.tree.specs.Lent.{Lent, Labelled, nodeCount}
 use Rattle.lent.specs.Limits.{deepest, most-pending}
 use Rattle.lent.specs.Ladder.{triangleCount}
 use Rattle.tree.specs.Node.{sound, leftOf, rightOf}
@@ -92,7 +92,7 @@ module _ (s : Lent) (r : Ray) (entries : (p : ℕ) → p < length (s .tree .inde
       (scan-all c (suc p) (tested (s .mesh .triangles) r k a) (omega arith) ∙ ap Down (tally _ _ _ _ _ _ refl (omega arith) refl))
 
   leaf-visit : (i besides : ℕ) (x : Node) (a : Tally) (b : Aabb) (p c : ℕ) → IsLeaf (s .tree) x b p c → T (usable b)
-      → judged s r i x besides a ≡ cond (passes r b) (Down (more s r 0 (rangeOf c p) a)) Missed
+      → judged (s .mesh .triangles) (s .tree) r i x besides a ≡ cond (passes r b) (Down (more s r 0 (rangeOf c p) a)) Missed
   unfolding judged sound opened openLeaf
   leaf-visit i besides x a b p c H B =
       rw (H .bounds, H .first, H .count, H .kind, is-true (usable b) B, le-ltb (length (s .tree .index)) (p + c) (H .inside))
@@ -107,7 +107,7 @@ module _ (s : Lent) (r : Ray) (entries : (p : ℕ) → p < length (s .tree .inde
   sound-internal i x b H B = rw (H .bounds, is-true (usable b) B, H .kind, H .count)
 
   internal-visit : (i besides : ℕ) (x : Node) (a : Tally) (b : Aabb) → IsInternal (s .tree) i x b → T (usable b) → besides + 2 ≤ most-pending
-      → judged s r i x besides a ≡ cond (passes r b) (Open (leftOf i x) (rightOf i x)) Missed
+      → judged (s .mesh .triangles) (s .tree) r i x besides a ≡ cond (passes r b) (Open (leftOf i x) (rightOf i x)) Missed
   unfolding judged opened
   internal-visit i besides x a b H B k =
       rw (sound-internal i x b H B, ap (passes r) (H .bounds), ne-eqb (x .kind) 1 (λ e. omega (arith, H .kind)), ← both-put (nodeCount (s .tree .links)) i x besides (leftOf i x) (rightOf i x) refl refl (H .right-there) k)
@@ -134,7 +134,7 @@ module _ (s : Lent) (r : Ray) (entries : (p : ℕ) → p < length (s .tree .inde
       abbrev Walked : Type 0
       Walked = run s r left (i ∷ rest) a ≡ run s r later rest (more s r (1 + 2 * entered r (internal b u v)) (reached r (internal b u v)) a)
 
-      visited : (q : Bool) → passes r b ≡ q → visit s r i (length rest) (boxed a) ≡ cond q (Open (leftOf i (nodeOf (s .tree) i)) (rightOf i (nodeOf (s .tree) i))) Missed
+      visited : (q : Bool) → passes r b ≡ q → visit (s .mesh .triangles) (s .tree) r i (length rest) (boxed a) ≡ cond q (Open (leftOf i (nodeOf (s .tree) i)) (rightOf i (nodeOf (s .tree) i))) Missed
       unfolding visit
       visited q t = rw (← t) (internal-visit i (length rest) (nodeOf (s .tree) i) (boxed a) b (H .0) (N .0) (omega arith))
 
@@ -178,11 +178,11 @@ short r (internal b u v) = go (passes r b) (short r u) (short r v)
     go true h k = omega arith
     go false h k = omega arith
 
-pub walked : (s : Lent) (t : Tree) (r : Ray) → Walkable s t → T (admittedRay r) → walk s r ≡ foundIn s r t
-walked s t r A R =
+pub walked : (s : Lent) (t : Tree) (r : Ray) → Walkable s t → Labelled (s .mesh) → T (admittedRay r) → walk s r ≡ foundIn s r t
+walked s t r A M R =
     let n = nodeCount (s .tree .links) in
     let left = n - (1 + 2 * entered r t) in
-    sym (walk-entered s r (A .whole) (A .few) (is-true (admittedRay r) R) (A .fitted))
+    sym (walk-entered s r (A .whole) (A .few) M (is-true (admittedRay r) R) (A .fitted))
     ∙ tree-walks s r (A .entries) (A .admitted) R t 0 [] n left start (A .holds) (A .nested) (omega (arith, A .shallow)) (omega (arith, A .sized, short r t))
     ∙ none-pending s r left (more s r (1 + 2 * entered r t) (reached r t) start)
     ∙ rw (zero-add (1 + 2 * entered r t), zero-add (length (reached r t)))

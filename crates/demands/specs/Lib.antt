@@ -4,5 +4,6 @@ pub mod Reached
 pub mod NearestHit
 pub mod SameLeaves
 pub mod Demand
+pub mod Materials
 pub mod Sky
 pub mod Survey

@@ -12,7 +12,7 @@ use Rattle.triangle.specs.declared.Found.the-variants.{At, Nothing}
 use Rattle.triangle.specs.Mesh.{triangleAt, admittedTriangle}
 use Rattle.triangle.specs.Meeting.{strike}
 use Rattle.lent.specs.Members.{Every, Some}
-use Rattle.tree.specs.Lent.{Lent}
+use Rattle.tree.specs.Lent.{Lent, materialOf}
 
 -- the triangle at a place of the index list is admitted
 abbrev pub Admitted : Lent → ℕ → Type 0
@@ -20,7 +20,7 @@ Admitted s p = T (admittedTriangle (triangleAt (s .mesh .triangles) (getD (s .tr
 
 -- what the ray finds of it
 abbrev pub finds : Lent → Ray → ℕ → Found
-finds s r p = strike r (triangleAt (s .mesh .triangles) (getD (s .tree .index) p 0)) (getD (s .tree .index) p 0)
+finds s r p = let k = getD (s .tree .index) p 0 in strike r (triangleAt (s .mesh .triangles) k) k (materialOf (s .mesh) k)
 
 -- Rule E2: the t of h is no greater than that of g, and where the two are numerically equal, its triangle's number is no higher
 abbrev pub Ahead : Hit → Hit → Type 0

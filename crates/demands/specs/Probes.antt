@@ -54,8 +54,8 @@ pub data Probe : Type 0 where
   split : List Float → SplitDecision → Probe
   -- a mesh, built in room that just suffices
   grown : List Float → Outcome → Probe
-  -- a ray walked through the built tree of a mesh
-  walked : List Float → Ray → Told → Probe
+  -- a ray walked through the built tree of a mesh with these materials
+  walked : List Float → List ℕ → Ray → Told → Probe
 
 -- built in room that just suffices
 unfoldable pub builtWhole : List Float → Outcome
@@ -63,14 +63,14 @@ builtWhole mesh = built mesh (replicate (triangleCount mesh) 0) (replicate (room
 
 -- node 0's box, as the built lists have it
 unfoldable pub rootBox : List Float → Aabb
-rootBox mesh = boxAt (handed mesh (builtWhole mesh) .tree .boxes) 0
+rootBox mesh = boxAt (handed mesh [] (builtWhole mesh) .tree .boxes) 0
 
 abbrev pub Claim : Probe → Type 0
 Claim (slabbed r b s) = slab r b ≡ s
 Claim (slabbedRoot mesh r s) = slab r (rootBox mesh) ≡ s
 Claim (split mesh d) = decision mesh (upTo (triangleCount mesh)) ≡ d
 Claim (grown mesh o) = builtWhole mesh ≡ o
-Claim (walked mesh r t) = walk (handed mesh (builtWhole mesh)) r ≡ t
+Claim (walked mesh materials r t) = walk (handed mesh materials (builtWhole mesh)) r ≡ t
 
 -- every row's claim
 abbrev pub All : List Probe → Type 0
@@ -88,8 +88,8 @@ down x y z = ray (vec x y z) (vec (int 0) (int 0) (minus 1))
 abbrev missed : ℕ → ℕ → Told
 missed b c = record { refusal = none; hit = Nothing; boxes = b; triangles = c }
 
-abbrev struck : Float → Vec3 → Vec3 → Bool → ℕ → ℕ → ℕ → Told
-struck t point normal front k b c = record { refusal = none; hit = At (record { t = t; point = point; normal = normal; front = front; triangle = k }); boxes = b; triangles = c }
+abbrev struck : Float → Vec3 → Vec3 → Bool → ℕ → ℕ → ℕ → ℕ → Told
+struck t point normal front k m b c = record { refusal = none; hit = At (record { t = t; point = point; normal = normal; front = front; triangle = k; material = m }); boxes = b; triangles = c }
 
 -- the triangle T: right-angled, its legs of 1 along x and y
 abbrev up : Vec3
@@ -110,9 +110,17 @@ infinite = inf false ∷ inf false ∷ inf false ∷ inf true ∷ inf true ∷ i
 abbrev unit : Aabb
 unit = box (vec (int 0) (int 0) (int 0)) (vec (int 1) (int 1) (int 1))
 
+-- its material
+abbrev wall : List ℕ
+wall = 70 ∷ []
+
 -- five in a row along x, with legs of 3, one every 16
 abbrev five : List Float
 five = triangle (int 0) (int 3) (int 3) ++ triangle (times 1 4) (int 19) (int 3) ++ triangle (times 1 5) (int 35) (int 3) ++ triangle (times 3 4) (int 51) (int 3) ++ triangle (times 1 6) (int 67) (int 3)
+
+-- and a material for each
+abbrev kinds : List ℕ
+kinds = 80 ∷ 81 ∷ 82 ∷ 83 ∷ 84 ∷ []
 
 abbrev along-x : Float → Float → List Float
 along-x a b = a ∷ int 0 ∷ int 0 ∷ b ∷ int 3 ∷ int 0 ∷ []
@@ -124,22 +132,22 @@ probes =
     grown [] (outcome (servedReply 1 1) [] infinite (0 ∷ 0 ∷ 1 ∷ [])) ∷
     slabbedRoot [] (ray (vec quarter quarter (int 1)) (vec (int 1) (int 1) (int 1))) (Passed (int 0) (inf false)) ∷
     slabbedRoot [] (down quarter quarter (int 1)) Missed ∷
-    walked [] (ray (vec quarter quarter (int 1)) (vec (int 1) (int 1) (int 1))) (missed 1 0) ∷
-    walked [] (down quarter quarter (int 1)) (missed 1 0) ∷
+    walked [] [] (ray (vec quarter quarter (int 1)) (vec (int 1) (int 1) (int 1))) (missed 1 0) ∷
+    walked [] [] (down quarter quarter (int 1)) (missed 1 0) ∷
     -- P2: T from above is met at 1, from the front, after one test of each kind
     grown T (outcome (servedReply 1 1) (0 ∷ []) flat (0 ∷ 1 ∷ 1 ∷ [])) ∷
-    walked T (down quarter quarter (int 1)) (struck (int 1) (vec quarter quarter (int 0)) up true 0 1 1) ∷
+    walked T wall (down quarter quarter (int 1)) (struck (int 1) (vec quarter quarter (int 0)) up true 0 70 1 1) ∷
     -- P3: and from below, from the back, the normal turned round
-    walked T (ray (vec quarter quarter (minus 1)) up) (struck (int 1) (vec quarter quarter (int 0)) (vec (minus 0) (minus 0) (minus 1)) false 0 1 1) ∷
+    walked T wall (ray (vec quarter quarter (minus 1)) up) (struck (int 1) (vec quarter quarter (int 0)) (vec (minus 0) (minus 0) (minus 1)) false 0 70 1 1) ∷
     -- P4: inside T's box, but beyond its long side: both tests are made, the second misses
-    walked T (down (over 3 2) (over 3 2) (int 1)) (missed 1 1) ∷
+    walked T wall (down (over 3 2) (over 3 2) (int 1)) (missed 1 1) ∷
     -- P5: beside T's box: no triangle test
-    walked T (down (times 1 1) quarter (int 1)) (missed 1 0) ∷
+    walked T wall (down (times 1 1) quarter (int 1)) (missed 1 0) ∷
     -- P6: just on T's long side, u + v being 1, is a hit
-    walked T (down (over 1 1) (over 1 1) (int 1)) (struck (int 1) (vec (over 1 1) (over 1 1) (int 0)) up true 0 1 1) ∷
+    walked T wall (down (over 1 1) (over 1 1) (int 1)) (struck (int 1) (vec (over 1 1) (over 1 1) (int 0)) up true 0 70 1 1) ∷
     -- P7: from 2^-20 above T it is too near, from 2^-19 it is not
-    walked T (down quarter quarter (over 1 20)) (missed 1 1) ∷
-    walked T (down quarter quarter (over 1 19)) (struck (over 1 19) (vec quarter quarter (int 0)) up true 0 1 1) ∷
+    walked T wall (down quarter quarter (over 1 20)) (missed 1 1) ∷
+    walked T wall (down quarter quarter (over 1 19)) (struck (over 1 19) (vec quarter quarter (int 0)) up true 0 70 1 1) ∷
     -- P8: above the unit cube, a direction of length 2^-40 is flat on all axes, and one of 2^-39 is not
     slabbed (ray (vec (over 1 1) (over 1 1) (times 1 1)) (vec (int 0) (int 0) (fin true 1 (negsuc 39)))) unit Missed ∷
     slabbed (ray (vec (over 1 1) (over 1 1) (times 1 1)) (vec (int 0) (int 0) (fin true 1 (negsuc 38)))) unit (Passed (times 1 39) (times 1 40)) ∷
@@ -151,7 +159,7 @@ probes =
     (outcome (servedReply 3 2) (0 ∷ 1 ∷ 3 ∷ 4 ∷ 2 ∷ []) (along-x (int 0) (int 67) ++ along-x (int 0) (int 19) ++ along-x (times 1 5) (int 67) ++ replicate 36 (int 0))
     (1 ∷ 0 ∷ 0 ∷ 0 ∷ 2 ∷ 1 ∷ 2 ∷ 3 ∷ 1 ∷ replicate 18 0)) ∷
     -- P11: down on the second of the row: three box tests, and the left leaf's two triangles
-    walked five (down (int 17) (int 1) (int 1)) (struck (int 1) (vec (int 17) (int 1) (int 0)) up true 1 3 2) ∷
+    walked five kinds (down (int 17) (int 1) (int 1)) (struck (int 1) (vec (int 17) (int 1) (int 0)) up true 1 81 3 2) ∷
     -- P12: down between the leaves' boxes: three box tests, no triangle test
-    walked five (down (int 25) (int 1) (int 1)) (missed 3 0) ∷
+    walked five kinds (down (int 25) (int 1) (int 1)) (missed 3 0) ∷
     []

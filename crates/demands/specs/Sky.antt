@@ -19,11 +19,12 @@ use Rattle.demands.specs.NearestHit.{NearestAt, NothingAt}
 use Rattle.sky.specs.Sky.{rayCount, placeAt, Filling}
 use Rattle.demands.specs.Demand.{Signed}
 
--- the place tells the triangle and t of the nearest
+-- the place tells the triangle, t and the material of the nearest
 pub record TellsNearest (s : Lent) (t : Tree) (r : Ray) (p : Place) : Type 0 where
   pub hit : Hit
   pub triangle : p .which ≡ hit .triangle
   pub t-is : p .t ≡ hit .t
+  pub material : p .material ≡ hit .material
   pub nearest : NearestAt s r (reached r t) hit
 
 pub record Demand3At (s : Lent) (t : Tree) (r : Ray) (p : Place) : Type 0 where

@@ -174,7 +174,7 @@ fn meet(a: Triangle, ray: Ray, k: u32) {
     io::write_all(1, b"triangle ");
     io::print_decimal(1, k as u64);
     flag(a.admitted());
-    match a.intersect(ray, k) {
+    match a.intersect(ray, k, 70) {
         Found::Nothing => {
             io::write_all(1, b" nothing");
         }

@@ -34,7 +34,7 @@ answered (numbered number at) refused served = refused number at
 unfoldable pub unless : {A : Type 0} → List Check → (ℕ → ℕ → A) → A → A
 unless checks refused served = answered (firstFailed checks) refused served
 
--- ---- the two checks with which every call over a mesh begins
+-- ---- the checks with which every call over a mesh begins
 -- Rule D1: twelve numbers each
 abbrev pub triangleCount : List Float → ℕ
 triangleCount mesh = length mesh / 12
@@ -46,3 +46,7 @@ ragged mesh = check (not (eqb (length mesh % 12) 0)) 1 0
 -- Refusal 2: too many of them
 abbrev pub crowded : List Float → Check
 crowded mesh = check (ltb most-triangles (triangleCount mesh)) 2 (triangleCount mesh)
+
+-- Refusal 18: another number of materials, where they are lent beside it
+abbrev pub unlabelled : List Float → List ℕ → Check
+unlabelled mesh materials = check (not (eqb (length materials) (triangleCount mesh))) 18 0

@@ -39,9 +39,9 @@ pub build-fixed : FixesAll build.Post {C = ℕ × List ℕ × List Float × List
 build-fixed κs x r r' e e' p q = ap (λ (o : Build). (o .answer, o .index, o .boxes, o .links, o .told)) (p ∙ sym q)
 
 -- the hit's numbers and what is told
-pub walk-fixed : FixesAll walk.Post {C = ℕ × List Float × List ℕ} (λ κs r e. (r, e .1 .1 .1 .1 .1 .0 .now, e .1 .1 .1 .1 .1 .1 .0 .now))
+pub walk-fixed : FixesAll walk.Post {C = ℕ × List Float × List ℕ} (λ κs r e. (r, e .1 .1 .1 .1 .1 .1 .0 .now, e .1 .1 .1 .1 .1 .1 .1 .0 .now))
 walk-fixed κs x r r' e e' p q = ap (λ (o : Walk). (o .answer, o .numbers, o .told)) (p ∙ sym q)
 
 -- the times, what is told and the refusal's place
-pub sky-fixed : FixesAll sky.Post {C = ℕ × List Float × List ℕ × List ℕ} (λ κs r e. (r, e .1 .1 .1 .1 .1 .0 .now, e .1 .1 .1 .1 .1 .1 .0 .now, e .1 .1 .1 .1 .1 .1 .1 .0 .now))
+pub sky-fixed : FixesAll sky.Post {C = ℕ × List Float × List ℕ × List ℕ} (λ κs r e. (r, e .1 .1 .1 .1 .1 .1 .0 .now, e .1 .1 .1 .1 .1 .1 .1 .0 .now, e .1 .1 .1 .1 .1 .1 .1 .1 .0 .now))
 sky-fixed κs x r r' e e' p q = ap (λ (o : Sky). (o .answer, o .times, o .told, o .at)) (p ∙ sym q)

@@ -18,7 +18,7 @@ use Rattle.sky.specs.Sky.{Filling}
 -- ---- pigeonmast_abi (rule X5)
 -- the number of the calls' form, PIGEONMAST_ABI of the C header
 abbrev pub abi : ℕ
-abi = 1
+abi = 2
 
 -- ---- what passes as numbers
 -- numbers = t, point, normal
@@ -77,12 +77,12 @@ pub record Walk : Type 0 where
 abbrev pub walk : ℕ → List Float → List ℕ → Walk
 walk answer numbers told = record { answer = answer; numbers = numbers; told = told }
 
--- 100 for a hit: numbers = t, point, normal; told = triangle, front (1 or 0), box tests, triangle tests. 0 for a miss: told = 0, 0, box tests,
--- triangle tests. Else the refusal number: told = at, 0, 0, 0. numbers stay unchanged unless it is a hit
+-- 100 for a hit: numbers = t, point, normal; told = triangle, front (1 or 0), box tests, triangle tests, material. 0 for a miss: told = 0, 0, box
+-- tests, triangle tests, 0. Else the refusal number: told = at, 0, 0, 0, 0. numbers stay unchanged unless it is a hit
 unfoldable pub walkReport : Refusal → Found → ℕ → ℕ → List Float → Walk
-walkReport none (At h) boxes triangles numbers = walk 100 (hitNumbers h) (h .triangle ∷ frontNumber h ∷ boxes ∷ triangles ∷ [])
-walkReport none Nothing boxes triangles numbers = walk 0 numbers (0 ∷ 0 ∷ boxes ∷ triangles ∷ [])
-walkReport (numbered number at) hit boxes triangles numbers = walk number numbers (at ∷ 0 ∷ 0 ∷ 0 ∷ [])
+walkReport none (At h) boxes triangles numbers = walk 100 (hitNumbers h) (h .triangle ∷ frontNumber h ∷ boxes ∷ triangles ∷ h .material ∷ [])
+walkReport none Nothing boxes triangles numbers = walk 0 numbers (0 ∷ 0 ∷ boxes ∷ triangles ∷ 0 ∷ [])
+walkReport (numbered number at) hit boxes triangles numbers = walk number numbers (at ∷ 0 ∷ 0 ∷ 0 ∷ 0 ∷ [])
 
 unfoldable pub walked : Told → List Float → Walk
 walked a numbers = walkReport (a .refusal) (a .hit) (a .boxes) (a .triangles) numbers

@@ -77,7 +77,7 @@ fn tell_build(answer: Built, told: &mut [u64; 2]) -> u32
 }
 
 // What a walk answered: the number, with `told` written, and `numbers` where it is a hit.
-fn tell_walk(answer: Answer, numbers: &mut [f64; 7], told: &mut [u64; 4]) -> u32
+fn tell_walk(answer: Answer, numbers: &mut [f64; 7], told: &mut [u64; 5]) -> u32
     ensures { λ r. ⌜ walk r (now (numbers .exit)) (now (told .exit)) ≡ walked (answered answer) (now (numbers .entry)) ⌝ }
 {
     match answer {
@@ -87,15 +87,21 @@ fn tell_walk(answer: Answer, numbers: &mut [f64; 7], told: &mut [u64; 4]) -> u32
             triangles,
         } => {
             *numbers = hit_numbers(hit);
-            *told = [hit.triangle as u64, front_number(hit), boxes, triangles];
+            *told = [
+                hit.triangle as u64,
+                front_number(hit),
+                boxes,
+                triangles,
+                hit.material as u64,
+            ];
             100
         }
         Answer::Missed { boxes, triangles } => {
-            *told = [0, 0, boxes, triangles];
+            *told = [0, 0, boxes, triangles, 0];
             0
         }
         Answer::Refused { number, at } => {
-            *told = [at, 0, 0, 0];
+            *told = [at, 0, 0, 0, 0];
             number
         }
     }
@@ -150,7 +156,7 @@ fn tell_triangle(found: Found, numbers: &mut [f64; 7]) -> u32
 pub extern "C" fn pigeonmast_abi() -> u32
     ensures { λ r. ⌜ r ≡ abi ⌝ }
 {
-    1
+    2
 }
 
 // A triangle's twelve numbers: v0, v1, v2, normal.
@@ -206,31 +212,34 @@ pub extern "C" fn pigeonmast_build(
     tell_build(answer, told)
 }
 
-// Walks the ray (origin, direction) through the tree. 100 for a hit: numbers = t, point, normal; told = triangle, front (1 or 0), box tests,
-// triangle tests. 0 for a miss: told = 0, 0, box tests, triangle tests. Else the refusal number of `walk::walk`: told = at, 0, 0, 0. numbers
-// stay unchanged unless it is a hit.
+// Walks the ray (origin, direction) through the tree; `materials` has one for each triangle. 100 for a hit: numbers = t, point, normal; told =
+// triangle, front (1 or 0), box tests, triangle tests, the triangle's material. 0 for a miss: told = 0, 0, box tests, triangle tests, 0. Else the
+// refusal number of `walk::walk`: told = at, 0, 0, 0, 0. numbers stay unchanged unless it is a hit.
 #[no_mangle]
 pub extern "C" fn pigeonmast_walk(
     triangles: &[f64],
+    materials: &[u32],
     index: &[u32],
     boxes: &[f64],
     links: &[u32],
     ray: &[f64; 6],
     numbers: &mut [f64; 7],
-    told: &mut [u64; 4],
+    told: &mut [u64; 5],
 ) -> u32
-    ensures { λ r. ⌜ walk r (now (numbers .exit)) (now (told .exit)) ≡ walked (scene.walk (lent (now (triangles .entry)) (now (index .entry)) (now (boxes .entry)) (now (links .entry))) (rayAt (now (ray .entry)) 0)) (now (numbers .entry)) ⌝ }
+    ensures { λ r. ⌜ walk r (now (numbers .exit)) (now (told .exit)) ≡ walked (scene.walk (lent (now (triangles .entry)) (now (materials .entry)) (now (index .entry)) (now (boxes .entry)) (now (links .entry))) (rayAt (now (ray .entry)) 0)) (now (numbers .entry)) ⌝ }
 {
-    let answer = walk::walk(triangles, index, boxes, links, Ray::read(ray, 0));
+    let answer = walk::walk(triangles, materials, index, boxes, links, Ray::read(ray, 0));
     tell_walk(answer, numbers, told)
 }
 
 // Walks every ray of `rays` (six numbers each: origin, direction) through the tree. 0 and at = 0: times has t of each ray's hit, else 0, and told
-// four numbers a ray: outcome (0 a miss, 100 a hit, or a refusal), the triangle's number or the refusal's at, box tests, triangle tests; room beyond
-// the rays stays. Or refusal 1, 2, 14 or 13 of the whole call (`sky::sky`) with its at; times and told stay unchanged.
+// five numbers a ray: outcome (0 a miss, 100 a hit, or a refusal), the triangle's number or the refusal's at, box tests, triangle tests, material,
+// 0 where none applies; room beyond the rays stays. Or refusal 1, 2, 18, 14 or 13 of the whole call (`sky::sky`) with its at; times and told stay
+// unchanged.
 #[no_mangle]
 pub extern "C" fn pigeonmast_sky(
     triangles: &[f64],
+    materials: &[u32],
     index: &[u32],
     boxes: &[f64],
     links: &[u32],
@@ -239,9 +248,9 @@ pub extern "C" fn pigeonmast_sky(
     told: &mut [u64],
     at: &mut [u64; 1],
 ) -> u32
-    ensures { λ r. ⌜ sky r (now (at .exit)) (now (times .exit)) (now (told .exit)) ≡ skyReport (filled (lent (now (triangles .entry)) (now (index .entry)) (now (boxes .entry)) (now (links .entry))) (now (rays .entry)) (now (times .entry)) (now (told .entry))) ⌝ }
+    ensures { λ r. ⌜ sky r (now (at .exit)) (now (times .exit)) (now (told .exit)) ≡ skyReport (filled (lent (now (triangles .entry)) (now (materials .entry)) (now (index .entry)) (now (boxes .entry)) (now (links .entry))) (now (rays .entry)) (now (times .entry)) (now (told .entry))) ⌝ }
 {
-    let answer = sky::sky(triangles, index, boxes, links, rays, times, told);
+    let answer = sky::sky(triangles, materials, index, boxes, links, rays, times, told);
     tell_sky(answer, at)
 }
 
@@ -262,9 +271,9 @@ pub extern "C" fn pigeonmast_triangle(
     ray: &[f64; 6],
     numbers: &mut [f64; 7],
 ) -> u32
-    ensures { λ r. ⌜ test r (now (numbers .exit)) ≡ triangleReport (strike (rayAt (now (ray .entry)) 0) (triangleAt (now (triangle .entry)) 0) 0) (now (numbers .entry)) ⌝ }
+    ensures { λ r. ⌜ test r (now (numbers .exit)) ≡ triangleReport (strike (rayAt (now (ray .entry)) 0) (triangleAt (now (triangle .entry)) 0) 0 0) (now (numbers .entry)) ⌝ }
 {
-    let found = Triangle::read(triangle, 0).intersect(Ray::read(ray, 0), 0);
+    let found = Triangle::read(triangle, 0).intersect(Ray::read(ray, 0), 0, 0);
     tell_triangle(found, numbers)
 }
 

@@ -1,13 +1,13 @@
 -- The report of the cases that a build and an input have, and the part of the room that the walk is handed. Assumes nothing.
 use mathlib.Core.Path.{_≡_, refl, sym, ap, _∙_}
 use mathlib.Core.Bool.{Bool, true, false}
-use mathlib.Core.List.{List, _++_}
-use Prim.Native.Nat.{ℕ, _+_, _*_, _-_, _≤_, _<_, min}
+use mathlib.Core.List.{List, _∷_, _++_}
+use Prim.Native.Nat.{ℕ, zero, suc, _+_, _*_, _-_, _≤_, _<_, min}
 use native.Mathlib.Nat.{sub-zero, min-eq-left, min-eq-right, min-le-left, mul-le-mul-right}
 use native.Mathlib.Omega.{arith}
 use borrow.Author.Tests.{leb-true, leb-false}
 use lib.Dec.{leb}
-use lib.ListN.{length, take, drop, length-take}
+use lib.ListN.{length, take, drop, replicate, length-take}
 use lib.Seq.{length-take-le, length-front, take-at, take-all}
 use lib.Ieee.{Float}
 use Rattle.builder.specs.declared.Built.{Built}
@@ -37,10 +37,16 @@ shown xs w nodes r h e = go (leb nodes 399) refl
         let up : 399 * w ≤ nodes * w = product 399 nodes (omega arith) in
         ap (λ (z : ℕ). take (z * w) xs) (e ∙ min-eq-right (omega arith)) ∙ take-all (399 * w) xs (omega arith) ∙ sym (take-all (nodes * w) xs (omega arith))
 
-pub handed-is : (mesh : List Float) (n nodes r : ℕ) (a : Reply) (i : List ℕ) (b : List Float) (l : List ℕ) → length b ≡ 2394 → length l ≡ 1197 → r ≡ min nodes 399
-    → lent mesh (take (n - 0) i) (take (r * 6 - 0) b) (take (r * 3 - 0) l) ≡ handed mesh n nodes (outcome a i b l)
+-- the front of so many zeros
+zeros : (n k : ℕ) → n ≤ k → take {A = ℕ} n (replicate k 0) ≡ replicate n 0
+zeros zero k h = refl
+zeros (suc n) zero h = absurd (omega arith)
+zeros (suc n) (suc k) h = ap (λ (l : List ℕ). 0 ∷ l) (zeros n k (omega arith))
+
+pub handed-is : (mesh : List Float) (n nodes r : ℕ) (a : Reply) (i : List ℕ) (b : List Float) (l : List ℕ) → n ≤ 200 → length b ≡ 2394 → length l ≡ 1197 → r ≡ min nodes 399
+    → lent mesh (take (n - 0) (replicate 200 0)) (take (n - 0) i) (take (r * 6 - 0) b) (take (r * 3 - 0) l) ≡ handed mesh n nodes (outcome a i b l)
 unfolding handed
-handed-is mesh n nodes r a i b l h k e = rw (sub-zero n, sub-zero (r * 6), sub-zero (r * 3), shown b 6 nodes r h e, shown l 3 nodes r k e)
+handed-is mesh n nodes r a i b l w h k e = rw (sub-zero n, zeros n 200 w, sub-zero (r * 6), sub-zero (r * 3), shown b 6 nodes r h e, shown l 3 nodes r k e)
 
 pub mesh-read : (xs : List Float) (n m l : ℕ) → l ≡ 4 + 96 * n + 4 + 48 * m → 4 + 8 * length (take (n * 12 - 0) xs) ≤ l
 mesh-read xs n m l e = omega (arith, length-take (n * 12 - 0) xs, min-le-left (n * 12 - 0) (length xs))

@@ -19,9 +19,9 @@ unfoldable pub rayLines : List ℕ → ℕ → Lent → ℕ → List ℕ
 rayLines s from l zero = []
 rayLines s from l (suc k) = rayLines s from l k ++ rayLine k (walk l (rayOf s (from + 48 * k)))
 
--- Rule C10: the lists, cut to what the build wrote
+-- Rule C10: the lists, cut to what the build wrote; every material is 0
 unfoldable pub handed : List Float → ℕ → ℕ → Outcome → Lent
-handed mesh n nodes o = lent mesh (take n (o .index)) (take (nodes * 6) (o .boxes)) (take (nodes * 3) (o .links))
+handed mesh n nodes o = lent mesh (replicate n 0) (take n (o .index)) (take (nodes * 6) (o .boxes)) (take (nodes * 3) (o .links))
 
 -- Rule I3: room for 200 triangles: 200 indices and 399 nodes
 unfoldable pub builtOf : List Float → Outcome

@@ -41,6 +41,7 @@ fn report(input: &[u8], triangles: &[f64], n: usize, rays: usize, out: &mut [u8]
     requires { ⌜ (n ≤ most) × (rays ≤ most) × (8 + 96 * n + 48 * rays ≤ length (now input)) × (25728 ≤ length (now out)) ⌝ }
     ensures { λ r. ⌜ Wrote (now (out .entry)) 0 (reported (now (input .entry)) (now (triangles .entry)) n rays) (now (out .exit)) r ⌝ }
 {
+    let materials = [0u32; 200];
     let mut index = [0u32; 200];
     let mut boxes = [0.0f64; 2394];
     let mut links = [0u32; 1197];
@@ -56,6 +57,7 @@ fn report(input: &[u8], triangles: &[f64], n: usize, rays: usize, out: &mut [u8]
                 input,
                 8 + 96 * n,
                 triangles,
+                &materials[0..n],
                 &index[0..n],
                 &boxes[0..b],
                 &links[0..l],
@@ -79,6 +81,7 @@ fn put_rays(
     input: &[u8],
     from: usize,
     triangles: &[f64],
+    materials: &[u32],
     index: &[u32],
     boxes: &[f64],
     links: &[u32],
@@ -87,13 +90,13 @@ fn put_rays(
     at: usize,
 ) -> usize
     requires { ⌜ (from + 48 * rays ≤ length (now input)) × (at + 128 * rays ≤ length (now out)) ⌝ }
-    ensures { λ r. ⌜ Wrote (now (out .entry)) at (rayLines (now (input .entry)) from (lent (now (triangles .entry)) (now (index .entry)) (now (boxes .entry)) (now (links .entry))) rays) (now (out .exit)) r ⌝ }
+    ensures { λ r. ⌜ Wrote (now (out .entry)) at (rayLines (now (input .entry)) from (lent (now (triangles .entry)) (now (materials .entry)) (now (index .entry)) (now (boxes .entry)) (now (links .entry))) rays) (now (out .exit)) r ⌝ }
 {
     let mut k: usize = 0;
     let mut next = at;
     while k < rays {
         let ray = number::ray(input, from + 48 * k);
-        let answer = walk::walk(triangles, index, boxes, links, ray);
+        let answer = walk::walk(triangles, materials, index, boxes, links, ray);
         next = line::put_ray(out, next, k as u64, answer);
         k += 1;
     }

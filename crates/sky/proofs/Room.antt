@@ -14,7 +14,7 @@ use Rattle.lent.proofs.Flat.{fill-more, records-length, records-at}
 use Rattle.aabb.specs.declared.vector.Ray.{Ray}
 use Rattle.aabb.specs.Vector.{rayAt}
 use Rattle.walk.specs.declared.Answer.{Answer}
-use Rattle.tree.specs.Lent.{Lent}
+use Rattle.tree.specs.Lent.{Lent, Labelled}
 use Rattle.walk.specs.Answer.{told as answered}
 use Rattle.walk.specs.Walk.{walk}
 use Rattle.sky.specs.declared.Place.{Place}
@@ -30,7 +30,7 @@ module _ (s : Lent) (rays : List Float) where
   unfolding records
   none-yet times = refl
 
-  pub none-told : (told : List ℕ) → told ≡ records (toldFor s rays) 0 ++ drop (0 * 4) told
+  pub none-told : (told : List ℕ) → told ≡ records (toldFor s rays) 0 ++ drop (0 * 5) told
   unfolding records
   none-told told = refl
 
@@ -41,33 +41,33 @@ module _ (s : Lent) (rays : List Float) where
         ∙ ap (λ (q : Place). set (records (timesFor s rays) k ++ drop k room) k (q .t)) is
         ∙ fill-more (timesFor s rays) room k k (k + 1) (records-length (timesFor s rays) 1 (λ i. refl) k ∙ omega arith) refl h
 
-    pub told-more : (told room : List ℕ) → k * 4 + 4 ≤ length room → told ≡ records (toldFor s rays) k ++ drop (k * 4) room → put 4 told k (toldOf p) ≡ records (toldFor s rays) (k + 1) ++ drop ((k + 1) * 4) room
+    pub told-more : (told room : List ℕ) → k * 5 + 5 ≤ length room → told ≡ records (toldFor s rays) k ++ drop (k * 5) room → put 5 told k (toldOf p) ≡ records (toldFor s rays) (k + 1) ++ drop ((k + 1) * 5) room
     unfolding put
     told-more told room h e =
-        ap (λ (l : List ℕ). sets l (k * 4) (toldOf p)) e
-        ∙ ap (λ (q : Place). sets (records (toldFor s rays) k ++ drop (k * 4) room) (k * 4) (toldOf q)) is
-        ∙ fill-more (toldFor s rays) room k (k * 4) ((k + 1) * 4) (records-length (toldFor s rays) 4 (λ i. refl) k) (omega arith) (omega arith)
+        ap (λ (l : List ℕ). sets l (k * 5) (toldOf p)) e
+        ∙ ap (λ (q : Place). sets (records (toldFor s rays) k ++ drop (k * 5) room) (k * 5) (toldOf q)) is
+        ∙ fill-more (toldFor s rays) room k (k * 5) ((k + 1) * 5) (records-length (toldFor s rays) 5 (λ i. refl) k) (omega arith) (omega arith)
 
   place-in : (times : List Float) (told : List ℕ) (n k : ℕ) → k < n
-      → placeAt (records (timesFor s rays) n ++ drop n times) (records (toldFor s rays) n ++ drop (n * 4) told) k ≡ placeFor s rays k
-  place-in times told n k h = rw (at (k * 4) 0 (omega arith) (omega arith), at (k * 4 + 1) 1 (omega arith) refl, at (k * 4 + 2) 2 (omega arith) refl, at (k * 4 + 3) 3 (omega arith) refl, time)
+      → placeAt (records (timesFor s rays) n ++ drop n times) (records (toldFor s rays) n ++ drop (n * 5) told) k ≡ placeFor s rays k
+  place-in times told n k h = rw (at (k * 5) 0 (omega arith) (omega arith), at (k * 5 + 1) 1 (omega arith) refl, at (k * 5 + 2) 2 (omega arith) refl, at (k * 5 + 3) 3 (omega arith) refl, at (k * 5 + 4) 4 (omega arith) refl, time)
     where
-      at : (p j : ℕ) → j < 4 → p ≡ k * 4 + j → getD (records (toldFor s rays) n ++ drop (n * 4) told) p 0 ≡ getD (toldFor s rays k) j 0
-      at p j l e = records-at (toldFor s rays) 4 (λ i. refl) n (drop (n * 4) told) k p j 0 h l e
+      at : (p j : ℕ) → j < 5 → p ≡ k * 5 + j → getD (records (toldFor s rays) n ++ drop (n * 5) told) p 0 ≡ getD (toldFor s rays k) j 0
+      at p j l e = records-at (toldFor s rays) 5 (λ i. refl) n (drop (n * 5) told) k p j 0 h l e
 
       time : getD (records (timesFor s rays) n ++ drop n times) k nan ≡ placeFor s rays k .t
       time = records-at (timesFor s rays) 1 (λ i. refl) n (drop n times) k k 0 nan h (omega arith) (omega arith)
 
   -- ---- the call
-  pub filled-is : (n : ℕ) (times times′ : List Float) (told told′ : List ℕ) → times′ ≡ records (timesFor s rays) n ++ drop n times → told′ ≡ records (toldFor s rays) n ++ drop (n * 4) told → filling none times′ told′ ≡ filled s rays n times told
+  pub filled-is : (n : ℕ) (times times′ : List Float) (told told′ : List ℕ) → times′ ≡ records (timesFor s rays) n ++ drop n times → told′ ≡ records (toldFor s rays) n ++ drop (n * 5) told → filling none times′ told′ ≡ filled s rays n times told
   unfolding filled
   filled-is n times times′ told told′ e f = rw (e, f)
 
   -- where none of the checks fails, the call is served
-  pub served : (times : List Float) (told : List ℕ) → length (s .mesh .triangles) % 12 ≡ 0 → triangleCount (s .mesh .triangles) ≤ most-triangles → length rays % 6 ≡ 0 → rayCount rays ≤ length times → rayCount rays * 4 ≤ length told
+  pub served : (times : List Float) (told : List ℕ) → length (s .mesh .triangles) % 12 ≡ 0 → triangleCount (s .mesh .triangles) ≤ most-triangles → Labelled (s .mesh) → length rays % 6 ≡ 0 → rayCount rays ≤ length times → rayCount rays * 5 ≤ length told
       → sky s rays times told .refusal ≡ none
   unfolding sky filled
-  served times told whole few sixes timed roomy = ap (λ (o : Filling). o .refusal) (sym (ends (goes (agree whole) (goes (not-below few) (goes (agree sixes) (goes (not-below timed) (goes (not-below roomy) (serves refl))))))))
+  served times told whole few named sixes timed roomy = ap (λ (o : Filling). o .refusal) (sym (ends (goes (agree whole) (goes (not-below few) (goes (agree named) (goes (agree sixes) (goes (not-below timed) (goes (not-below roomy) (serves refl)))))))))
 
   -- a call that is served passed every check, so every place is filled
   filled-all : (times : List Float) (told : List ℕ) → sky s rays times told .refusal ≡ none → filled s rays (rayCount rays) times told ≡ sky s rays times told

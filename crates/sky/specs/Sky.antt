@@ -5,7 +5,7 @@ use mathlib.Core.List.{List, [], _∷_, _++_}
 use lib.Dec.{ltb, eqb}
 use lib.ListN.{length, getD, drop}
 use lib.Ieee.{Float, nan}
-use Rattle.lent.specs.Ladder.{Refusal, none, numbered, check, unless, ragged, crowded}
+use Rattle.lent.specs.Ladder.{Refusal, none, numbered, check, unless, ragged, crowded, unlabelled}
 use Rattle.lent.specs.Flat.{records}
 use Rattle.float.specs.Number.{nought}
 use Rattle.aabb.specs.Vector.{rayAt}
@@ -23,11 +23,11 @@ abbrev pub rayCount : List Float → ℕ
 rayCount rays = length rays / 6
 
 -- ---- one place
--- Rule K2: how the walk ended, what was hit or refused, t, and both counts; zeros for what there isn't
+-- Rule K2: how the walk ended, what was hit or refused, t, both counts, and the material; zeros for what there isn't
 unfoldable pub placed : Refusal → Found → ℕ → ℕ → Place
-placed none (At h) boxes triangles = record { outcome = 100; which = h .triangle; t = h .t; boxes = boxes; triangles = triangles }
-placed none Nothing boxes triangles = record { outcome = 0; which = 0; t = nought; boxes = boxes; triangles = triangles }
-placed (numbered number at) hit boxes triangles = record { outcome = number; which = at; t = nought; boxes = 0; triangles = 0 }
+placed none (At h) boxes triangles = record { outcome = 100; which = h .triangle; t = h .t; boxes = boxes; triangles = triangles; material = h .material }
+placed none Nothing boxes triangles = record { outcome = 0; which = 0; t = nought; boxes = boxes; triangles = triangles; material = 0 }
+placed (numbered number at) hit boxes triangles = record { outcome = number; which = at; t = nought; boxes = 0; triangles = 0; material = 0 }
 
 unfoldable pub placeOf : Told → Place
 placeOf a = placed (a .refusal) (a .hit) (a .boxes) (a .triangles)
@@ -36,9 +36,9 @@ placeOf a = placed (a .refusal) (a .hit) (a .boxes) (a .triangles)
 unfoldable pub placeFor : Lent → List Float → ℕ → Place
 placeFor s rays k = placeOf (walk s (rayAt rays k))
 
--- Rule K2: four whole numbers a place
+-- Rule K2: five whole numbers a place
 abbrev pub toldOf : Place → List ℕ
-toldOf p = p .outcome ∷ p .which ∷ p .boxes ∷ p .triangles ∷ []
+toldOf p = p .outcome ∷ p .which ∷ p .boxes ∷ p .triangles ∷ p .material ∷ []
 
 abbrev pub toldFor : Lent → List Float → ℕ → List ℕ
 toldFor s rays k = toldOf (placeFor s rays k)
@@ -50,11 +50,12 @@ timesFor s rays k = placeFor s rays k .t ∷ []
 -- place k of the answer room, as a caller reads it
 abbrev pub placeAt : List Float → List ℕ → ℕ → Place
 placeAt times told k = record {
-  outcome = getD told (k * 4) 0;
-  which = getD told (k * 4 + 1) 0;
+  outcome = getD told (k * 5) 0;
+  which = getD told (k * 5 + 1) 0;
   t = getD times k nan;
-  boxes = getD told (k * 4 + 2) 0;
-  triangles = getD told (k * 4 + 3) 0;
+  boxes = getD told (k * 5 + 2) 0;
+  triangles = getD told (k * 5 + 3) 0;
+  material = getD told (k * 5 + 4) 0;
 }
 
 -- ---- the call
@@ -74,18 +75,19 @@ filling refusal times told = record { refusal = refusal; times = times; told = t
 
 -- Rule K3: one place for each of n rays; room beyond them stays
 unfoldable pub filled : Lent → List Float → ℕ → List Float → List ℕ → Filling
-filled s rays n times told = filling none (records (timesFor s rays) n ++ drop n times) (records (toldFor s rays) n ++ drop (n * 4) told)
+filled s rays n times told = filling none (records (timesFor s rays) n ++ drop n times) (records (toldFor s rays) n ++ drop (n * 5) told)
 
--- Rule K4: the whole call is refused, and writes nothing, for the mesh (1, 2), for rays that are not in sixes (14), and for room that is too short in
--- times or in told (13)
+-- Rule K4: the whole call is refused, and writes nothing, for the mesh (1, 2) and its materials (18), for rays that are not in sixes (14), and for
+-- room that is too short in times or in told (13)
 unfoldable pub sky : Lent → List Float → List Float → List ℕ → Filling
 sky s rays times told =
     unless
     (ragged (s .mesh .triangles)
     ∷ crowded (s .mesh .triangles)
+    ∷ unlabelled (s .mesh .triangles) (s .mesh .materials)
     ∷ check (not (eqb (length rays % 6) 0)) 14 0
     ∷ check (ltb (length times) (rayCount rays)) 13 0
-    ∷ check (ltb (length told) (rayCount rays * 4)) 13 0
+    ∷ check (ltb (length told) (rayCount rays * 5)) 13 0
     ∷ [])
     (λ number at. filling (numbered number at) times told)
     (filled s rays (rayCount rays) times told)

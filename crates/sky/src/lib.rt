@@ -18,13 +18,14 @@ pub enum Filled {
 }
 
 // What one place holds (rule K2): 0 for a miss, 100 for a hit, else the refusal number; which triangle, or where it was refused; t; the box
-// tests and the triangle tests; zeros for what there isn't.
+// tests and the triangle tests; the material; zeros for what there isn't.
 pub struct Place {
     pub outcome: u64,
     pub which: u64,
     pub t: f64,
     pub boxes: u64,
     pub triangles: u64,
+    pub material: u64,
 }
 
 // What the place of a walk's answer holds.
@@ -42,6 +43,7 @@ fn place_of(answer: Answer) -> Place
             t: hit.t,
             boxes,
             triangles,
+            material: hit.material as u64,
         },
         Answer::Missed { boxes, triangles } => Place {
             outcome: 0,
@@ -49,6 +51,7 @@ fn place_of(answer: Answer) -> Place
             t: 0.0,
             boxes,
             triangles,
+            material: 0,
         },
         Answer::Refused { number, at } => Place {
             outcome: number as u64,
@@ -56,27 +59,30 @@ fn place_of(answer: Answer) -> Place
             t: 0.0,
             boxes: 0,
             triangles: 0,
+            material: 0,
         },
     }
 }
 
-// Place k, written: one number of `times` and four of `told`.
+// Place k, written: one number of `times` and five of `told`.
 fn put(times: &mut [f64], told: &mut [u64], k: usize, place: Place)
-    requires { ⌜ (k + 1 ≤ length (now times)) × (k * 4 + 4 ≤ length (now told)) ⌝ }
+    requires { ⌜ (k + 1 ≤ length (now times)) × (k * 5 + 5 ≤ length (now told)) ⌝ }
     ensures { λ _. ⌜ now (times .exit) ≡ set (now (times .entry)) k (place .t) ⌝ }
-    ensures { λ _. ⌜ now (told .exit) ≡ written 4 (now (told .entry)) k (toldOf place) ⌝ }
+    ensures { λ _. ⌜ now (told .exit) ≡ written 5 (now (told .entry)) k (toldOf place) ⌝ }
 {
-    let at = k * 4;
+    let at = k * 5;
     times[k] = place.t;
     told[at] = place.outcome;
     told[at + 1] = place.which;
     told[at + 2] = place.boxes;
     told[at + 3] = place.triangles;
+    told[at + 4] = place.material;
 }
 
 // The places of n rays, in room that suffices.
 fn fill(
     triangles: &[f64],
+    materials: &[u32],
     index: &[u32],
     boxes: &[f64],
     links: &[u32],
@@ -85,26 +91,27 @@ fn fill(
     times: &mut [f64],
     told: &mut [u64],
 )
-    requires { ⌜ (n ≤ length (now times)) × (n * 4 ≤ length (now told)) ⌝ }
-    ensures { λ _. ⌜ now (times .exit) ≡ records (timesFor (lent (now (triangles .entry)) (now (index .entry)) (now (boxes .entry)) (now (links .entry))) (now (rays .entry))) n ++ drop n (now (times .entry)) ⌝ }
-    ensures { λ _. ⌜ now (told .exit) ≡ records (toldFor (lent (now (triangles .entry)) (now (index .entry)) (now (boxes .entry)) (now (links .entry))) (now (rays .entry))) n ++ drop (n * 4) (now (told .entry)) ⌝ }
+    requires { ⌜ (n ≤ length (now times)) × (n * 5 ≤ length (now told)) ⌝ }
+    ensures { λ _. ⌜ now (times .exit) ≡ records (timesFor (lent (now (triangles .entry)) (now (materials .entry)) (now (index .entry)) (now (boxes .entry)) (now (links .entry))) (now (rays .entry))) n ++ drop n (now (times .entry)) ⌝ }
+    ensures { λ _. ⌜ now (told .exit) ≡ records (toldFor (lent (now (triangles .entry)) (now (materials .entry)) (now (index .entry)) (now (boxes .entry)) (now (links .entry))) (now (rays .entry))) n ++ drop (n * 5) (now (told .entry)) ⌝ }
 {
     let mut k: usize = 0;
     while k < n {
         let ray = Ray::read(rays, k);
-        let answer = walk::walk(triangles, index, boxes, links, ray);
+        let answer = walk::walk(triangles, materials, index, boxes, links, ray);
         put(times, told, k, place_of(answer));
         k += 1;
     }
 }
 
 // The walk of every ray, six numbers each: origin, direction. Place k is what `walk` answers for ray k: times[k] is t of a hit, else 0, and
-// told[4k..4k+4] are the outcome (0 a miss, 100 a hit, else the refusal number), the triangle or the refusal's `at`, the box tests and the
-// triangle tests, 0 where none applies. A refused ray does not stop the rest; room beyond the rays stays. The whole call is refused, in this
-// order, and then writes nothing: 1 triangles that are not in twelves; 2 more than 65,536 of them; 14 rays that are not in sixes;
-// 13 times shorter than one a ray or told shorter than four.
+// told[5k..5k+5] are the outcome (0 a miss, 100 a hit, else the refusal number), the triangle or the refusal's `at`, the box tests, the triangle
+// tests and the triangle's material, 0 where none applies. A refused ray does not stop the rest; room beyond the rays stays. The whole call is
+// refused, in this order, and then writes nothing: 1 triangles that are not in twelves; 2 more than 65,536 of them; 18 not one material for each;
+// 14 rays that are not in sixes; 13 times shorter than one a ray or told shorter than five.
 pub fn sky(
     triangles: &[f64],
+    materials: &[u32],
     index: &[u32],
     boxes: &[f64],
     links: &[u32],
@@ -112,7 +119,7 @@ pub fn sky(
     times: &mut [f64],
     told: &mut [u64],
 ) -> Filled
-    ensures { λ r. ⌜ filling (skyRefusal r) (now (times .exit)) (now (told .exit)) ≡ sky (lent (now (triangles .entry)) (now (index .entry)) (now (boxes .entry)) (now (links .entry))) (now (rays .entry)) (now (times .entry)) (now (told .entry)) ⌝ }
+    ensures { λ r. ⌜ filling (skyRefusal r) (now (times .exit)) (now (told .exit)) ≡ sky (lent (now (triangles .entry)) (now (materials .entry)) (now (index .entry)) (now (boxes .entry)) (now (links .entry))) (now (rays .entry)) (now (times .entry)) (now (told .entry)) ⌝ }
 {
     let numbers = triangles.len();
     if numbers % 12 != 0 {
@@ -125,6 +132,9 @@ pub fn sky(
             at: n as u64,
         };
     }
+    if materials.len() != n {
+        return Filled::Refused { number: 18, at: 0 };
+    }
     let count = rays.len() / 6;
     if rays.len() % 6 != 0 {
         return Filled::Refused { number: 14, at: 0 };
@@ -132,9 +142,19 @@ pub fn sky(
     if times.len() < count {
         return Filled::Refused { number: 13, at: 0 };
     }
-    if told.len() < count * 4 {
+    if told.len() < count * 5 {
         return Filled::Refused { number: 13, at: 0 };
     }
-    fill(triangles, index, boxes, links, rays, count, times, told);
+    fill(
+        triangles,
+        materials,
+        index,
+        boxes,
+        links,
+        rays,
+        count,
+        times,
+        told,
+    );
     Filled::Places
 }

@@ -12,11 +12,11 @@ pub struct Node {
 }
 
 // The word at a place of a lent slice, or 0 beyond its end.
-fn word(links: &[u32], at: usize) -> u32
-    ensures { λ r. ⌜ r ≡ getD (now (links .entry)) at 0 ⌝ }
+pub fn word(words: &[u32], at: usize) -> u32
+    ensures { λ r. ⌜ r ≡ getD (now (words .entry)) at 0 ⌝ }
 {
-    if at < links.len() {
-        return links[at];
+    if at < words.len() {
+        return words[at];
     }
     0
 }

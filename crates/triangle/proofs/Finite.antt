@@ -161,11 +161,11 @@ module _ (r : Ray) (a : Triangle) (R : T (admittedRay r)) (A : T (admittedTriang
   unfolding distance distanceTo
   distance-finite s e = judged-finite (det r (cornersOf a)) (uOf r (cornersOf a)) (vOf r (cornersOf a)) (tOf r (cornersOf a)) s (λ n. test-finite n .t-is) e
 
-  found-finite : (k : ℕ) (d : Distance) (h : Hit) → ((s : Float) → d ≡ To s → T (finite s)) → found r a k d ≡ At h → T (finite (h .t))
+  found-finite : (k m : ℕ) (d : Distance) (h : Hit) → ((s : Float) → d ≡ To s → T (finite s)) → found r a k m d ≡ At h → T (finite (h .t))
   unfolding found hitAt
-  found-finite k None h f e = absurd (let z : _≡_ {A = ℕ} 0 1 = cc in omega arith)
-  found-finite k (To s) h f e = let i : s ≡ h .t = cc in rw i at (f s refl)
+  found-finite k m None h f e = absurd (let z : _≡_ {A = ℕ} 0 1 = cc in omega arith)
+  found-finite k m (To s) h f e = let i : s ≡ h .t = cc in rw i at (f s refl)
 
-  pub strike-finite : (k : ℕ) (h : Hit) → strike r a k ≡ At h → T (finite (h .t))
+  pub strike-finite : (k m : ℕ) (h : Hit) → strike r a k m ≡ At h → T (finite (h .t))
   unfolding strike
-  strike-finite k h e = found-finite k (distance r a) h distance-finite e
+  strike-finite k m h e = found-finite k m (distance r a) h distance-finite e

@@ -101,17 +101,17 @@ none-first d u v t low all x y h = go (lt (magnitude d) ten-billionth) (le nough
     go false true true false false p q r = absurd (rw (← x, ← y, h) at (least u v (rw p tt) q r))
 
 -- ---- the hit
-abbrev pub hit : Float → Vec3 → Vec3 → Bool → ℕ → Hit
-hit t point normal front k = record { t = t; point = point; normal = normal; front = front; triangle = k }
+abbrev pub hit : Float → Vec3 → Vec3 → Bool → ℕ → ℕ → Hit
+hit t point normal front k m = record { t = t; point = point; normal = normal; front = front; triangle = k; material = m }
 
-pub hit-front : (r : Ray) (a : Triangle) (k : ℕ) (t : Float) (point : Vec3) (d : Float) → point ≡ pointAt r t → d ≡ dot (r .direction) (a .normal) → lt d nought ≡ true → hit t point (a .normal) true k ≡ hitAt r a k t
+pub hit-front : (r : Ray) (a : Triangle) (k m : ℕ) (t : Float) (point : Vec3) (d : Float) → point ≡ pointAt r t → d ≡ dot (r .direction) (a .normal) → lt d nought ≡ true → hit t point (a .normal) true k m ≡ hitAt r a k m t
 unfolding hitAt faces
-hit-front r a k t point d p q h = rw (← p, ← q, h)
+hit-front r a k m t point d p q h = rw (← p, ← q, h)
 
-pub hit-back : (r : Ray) (a : Triangle) (k : ℕ) (t : Float) (point turned : Vec3) (d : Float) → point ≡ pointAt r t → d ≡ dot (r .direction) (a .normal) → lt d nought ≡ false → turned ≡ negated (a .normal)
-    → hit t point turned false k ≡ hitAt r a k t
+pub hit-back : (r : Ray) (a : Triangle) (k m : ℕ) (t : Float) (point turned : Vec3) (d : Float) → point ≡ pointAt r t → d ≡ dot (r .direction) (a .normal) → lt d nought ≡ false → turned ≡ negated (a .normal)
+    → hit t point turned false k m ≡ hitAt r a k m t
 unfolding hitAt faces
-hit-back r a k t point turned d p q h e = rw (← p, ← q, h, ← e)
+hit-back r a k m t point turned d p q h e = rw (← p, ← q, h, ← e)
 
 -- ---- reading
 abbrev pub triangle : Vec3 → Vec3 → Vec3 → Vec3 → Triangle

@@ -72,13 +72,13 @@ unfoldable pub faces : Ray → Triangle → Bool
 faces r a = lt (dot (r .direction) (a .normal)) nought
 
 -- Rule T5: the normal on the ray's side, with all else that a hit has
-unfoldable pub hitAt : Ray → Triangle → ℕ → Float → Hit
-hitAt r a k t = record { t = t; point = pointAt r t; normal = cond (faces r a) (a .normal) (negated (a .normal)); front = faces r a; triangle = k }
+unfoldable pub hitAt : Ray → Triangle → ℕ → ℕ → Float → Hit
+hitAt r a k m t = record { t = t; point = pointAt r t; normal = cond (faces r a) (a .normal) (negated (a .normal)); front = faces r a; triangle = k; material = m }
 
-unfoldable pub found : Ray → Triangle → ℕ → Distance → Found
-found r a k None = Nothing
-found r a k (To t) = At (hitAt r a k t)
+unfoldable pub found : Ray → Triangle → ℕ → ℕ → Distance → Found
+found r a k m None = Nothing
+found r a k m (To t) = At (hitAt r a k m t)
 
--- Rules T4 and T5: what ray r finds of the triangle a, of number k
-unfoldable pub strike : Ray → Triangle → ℕ → Found
-strike r a k = found r a k (distance r a)
+-- Rules T4 and T5: what ray r finds of the triangle a, of number k and material m
+unfoldable pub strike : Ray → Triangle → ℕ → ℕ → Found
+strike r a k m = found r a k m (distance r a)

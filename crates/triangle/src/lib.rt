@@ -1,6 +1,6 @@
 // Triangles and the Möller–Trumbore test: a port of triangle.rs. Every call answers on every f64.
-// Left out: `material_id` and what turns a triangle of optics_core into one. For `surface_index` a hit has the triangle's
-// number. A mesh is a lent slice, twelve numbers a triangle: v0, v1, v2, normal.
+// Left out: what turns a triangle of optics_core into one. For `surface_index` a hit has the triangle's number, and for `material_id`, which the Rust
+// keeps in the triangle, the material that is lent beside it. A mesh is a lent slice, twelve numbers a triangle: v0, v1, v2, normal.
 mod normals; // normals.rt: Triangle::new, and the call that refills a mesh
 
 use aabb::Aabb;
@@ -30,13 +30,15 @@ pub struct Corners {
     pub v2: Vec3,
 }
 
-// What a ray finds where it meets a triangle: the distance, the point, the normal on the ray's side, whether that side is the front, and the triangle's number.
+// What a ray finds where it meets a triangle: the distance, the point, the normal on the ray's side, whether that side is the front, and the
+// triangle's number and material.
 pub struct Hit {
     pub t: f64,
     pub point: Vec3,
     pub normal: Vec3,
     pub front: bool,
     pub triangle: u32,
+    pub material: u32,
 }
 
 // What a ray finds of a triangle.
@@ -134,8 +136,8 @@ impl Triangle {
     }
 
     // The hit at distance t (rule T5), with the normal turned to the ray's side.
-    pub fn hit(self, ray: Ray, t: f64, number: u32) -> Hit
-        ensures { λ r. ⌜ r ≡ hitAt ray self number t ⌝ }
+    pub fn hit(self, ray: Ray, t: f64, number: u32, material: u32) -> Hit
+        ensures { λ r. ⌜ r ≡ hitAt ray self number material t ⌝ }
     {
         let point = ray.at(t);
         let normal = self.normal;
@@ -146,6 +148,7 @@ impl Triangle {
                 normal,
                 front: true,
                 triangle: number,
+                material,
             };
         }
         let turned = normal.negated();
@@ -155,16 +158,17 @@ impl Triangle {
             normal: turned,
             front: false,
             triangle: number,
+            material,
         }
     }
 
-    // What the ray finds of the triangle, whose number is given.
-    pub fn intersect(self, ray: Ray, number: u32) -> Found
-        ensures { λ r. ⌜ r ≡ strike ray self number ⌝ }
+    // What the ray finds of the triangle, whose number and material are given.
+    pub fn intersect(self, ray: Ray, number: u32, material: u32) -> Found
+        ensures { λ r. ⌜ r ≡ strike ray self number material ⌝ }
     {
         match self.distance(ray) {
             Distance::None => Found::Nothing,
-            Distance::To(t) => Found::At(self.hit(ray, t, number)),
+            Distance::To(t) => Found::At(self.hit(ray, t, number, material)),
         }
     }
 }

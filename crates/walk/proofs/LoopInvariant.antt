@@ -40,7 +40,7 @@ none-left : (s : Lent) (r : Ray) (left i : ℕ) (rest : List ℕ) (a : Tally) �
 unfolding run
 none-left s r left i rest a e = rw e
 
-pub one-left : (s : Lent) (r : Ray) (left more i : ℕ) (rest : List ℕ) (a : Tally) → left ≡ suc more → run s r left (i ∷ rest) a ≡ onward (visit s r i (length rest) (boxed a)) rest (boxed a) (run s r more)
+pub one-left : (s : Lent) (r : Ray) (left more i : ℕ) (rest : List ℕ) (a : Tally) → left ≡ suc more → run s r left (i ∷ rest) a ≡ onward (visit (s .mesh .triangles) (s .tree) r i (length rest) (boxed a)) rest (boxed a) (run s r more)
 unfolding run
 one-left s r left more i rest a e = rw e
 
@@ -108,12 +108,12 @@ module _ {s : Lent} {r : Ray} {n : ℕ} {p : Pending} {a b : Tally} (C : Countin
       }
 
   -- and it is visited
-  module _ {t : Turn} (e : t ≡ visit s r (lastOf p) (p .len - 1) b) where
+  module _ {t : Turn} (e : t ≡ visit (s .mesh .triangles) (s .tree) r (lastOf p) (p .len - 1) b) where
     next : onward t (besides p) b (run s r (n - (a .boxes + 1))) ≡ run s r n (0 ∷ []) start
     next =
         ap (λ (u : Turn). onward u (besides p) b (run s r (n - (a .boxes + 1)))) e
-        ∙ ap (λ (k : ℕ). onward (visit s r (lastOf p) k b) (besides p) b (run s r (n - (a .boxes + 1)))) (sym (length-top (p .nodes) (p .len - 1)))
-        ∙ ap (λ (c : Tally). onward (visit s r (lastOf p) (length (besides p)) c) (besides p) c (run s r (n - (a .boxes + 1)))) (C .one)
+        ∙ ap (λ (k : ℕ). onward (visit (s .mesh .triangles) (s .tree) r (lastOf p) k b) (besides p) b (run s r (n - (a .boxes + 1)))) (sym (length-top (p .nodes) (p .len - 1)))
+        ∙ ap (λ (c : Tally). onward (visit (s .mesh .triangles) (s .tree) r (lastOf p) (length (besides p)) c) (besides p) c (run s r (n - (a .boxes + 1)))) (C .one)
         ∙ sym (one-left s r (n - a .boxes) (n - (a .boxes + 1)) (lastOf p) (besides p) a (omega (arith, C .more)))
         ∙ apart (C .going) (C .some)
 
@@ -141,7 +141,7 @@ module _ {s : Lent} {r : Ray} {n : ℕ} {p : Pending} {a b : Tally} (C : Countin
 
     module _ (small : (k : ℕ) → getD (s .tree .links) k 0 < 2 ^ 32) where
       bounds : Leaves (nodeCount (s .tree .links)) (p .len - 1) (b .boxes) (b .triangles + 2 ^ 32) t
-      bounds = rw e (visited s r (lastOf p) (p .len - 1) b small)
+      bounds = rw e (visited (s .mesh .triangles) (s .tree) r (lastOf p) (p .len - 1) b small)
 
       -- a leaf is done with
       module _ {c : Tally} (g : t ≡ Down c) where

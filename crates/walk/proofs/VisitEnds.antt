@@ -18,7 +18,7 @@ use Rattle.walk.specs.declared.tally.Tally.{Tally}
 use Rattle.walk.specs.declared.turn.Turn.{Turn}
 use Rattle.walk.specs.declared.turn.Turn.the-variants.{Refuse, Missed, Open}
 use Rattle.tree.specs.declared.Node.{Node}
-use Rattle.tree.specs.Lent.{Lent, nodeCount}
+use Rattle.tree.specs.Lent.{Lists, nodeCount}
 use Rattle.lent.specs.Limits.{most-pending}
 use Rattle.tree.specs.Node.{leftOrFirst, nodeOf, sound, leftOf, rightOf}
 use Rattle.walk.specs.Walk.{scan, openLeaf, openInternal, opened, judged, visit}
@@ -80,25 +80,25 @@ module _ (m : Aim) (b : Aabb) (A : m ≡ aimed (m .ray)) (s : Span) (e : s ≡ t
   passed enter exit f = rw f at tells
 
 -- ---- a node
-module _ (s : Lent) (r : Ray) (i besides : ℕ) (a : Tally) (x : Node) (e : x ≡ nodeOf (s .tree) i) where
-  at-node : judged s r i x besides a ≡ visit s r i besides a
+module _ (mesh : List Float) (s : Lists) (r : Ray) (i besides : ℕ) (a : Tally) (x : Node) (e : x ≡ nodeOf s i) where
+  at-node : judged mesh s r i x besides a ≡ visit mesh s r i besides a
   unfolding visit
   at-node = rw e
 
-  pub unsound : sound x ≡ false → Refuse 9 i ≡ visit s r i besides a
+  pub unsound : sound x ≡ false → Refuse 9 i ≡ visit mesh s r i besides a
   unfolding judged
   unsound h = rw h at at-node
 
   module _ (h : sound x ≡ true) where
-    pub outside : passes r (x .bounds) ≡ false → Missed ≡ visit s r i besides a
+    pub outside : passes r (x .bounds) ≡ false → Missed ≡ visit mesh s r i besides a
     unfolding judged
     outside p = rw (h, p) at at-node
 
     module _ (p : passes r (x .bounds) ≡ true) where
-      pub at-leaf : x .kind ≡ 1 → openLeaf (s .mesh .triangles) (s .tree .index) r i x a ≡ visit s r i besides a
+      pub at-leaf : x .kind ≡ 1 → openLeaf mesh (s .index) r i x a ≡ visit mesh s r i besides a
       unfolding judged opened
       at-leaf k = rw (h, p, eq-eqb (x .kind) 1 k) at at-node
 
-      pub at-internal : (x .kind ≡ 1 → ⊥) → openInternal (nodeCount (s .tree .links)) i x besides ≡ visit s r i besides a
+      pub at-internal : (x .kind ≡ 1 → ⊥) → openInternal (nodeCount (s .links)) i x besides ≡ visit mesh s r i besides a
       unfolding judged opened
       at-internal k = rw (h, p, ne-eqb (x .kind) 1 k) at at-node

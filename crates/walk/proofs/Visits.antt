@@ -17,7 +17,7 @@ use Rattle.walk.specs.declared.tally.Tally.{Tally}
 use Rattle.walk.specs.declared.turn.Turn.{Turn}
 use Rattle.walk.specs.declared.turn.Turn.the-variants.{Refuse, Missed, Down, Open}
 use Rattle.tree.specs.declared.Node.{Node}
-use Rattle.tree.specs.Lent.{Lent, nodeCount}
+use Rattle.tree.specs.Lent.{Lists, nodeCount}
 use Rattle.lent.specs.Limits.{most-pending}
 use Rattle.lent.specs.Ladder.{triangleCount}
 use Rattle.tree.specs.Node.{leftOrFirst, linked, nodeAt, nodeOf, sound, leftOf, rightOf}
@@ -82,26 +82,26 @@ module _ (nodes besides boxes most : ℕ) where
         room = ltb-false most-pending (besides + 2) f;
       }))
 
-module _ (s : Lent) (r : Ray) (i besides : ℕ) (a : Tally) (small : (k : ℕ) → getD (s .tree .links) k 0 < 2 ^ 32) where
+module _ (mesh : List Float) (s : Lists) (r : Ray) (i besides : ℕ) (a : Tally) (small : (k : ℕ) → getD (s .links) k 0 < 2 ^ 32) where
   abbrev Q : Turn → Type 0
-  Q t = Leaves (nodeCount (s .tree .links)) besides (a .boxes) (a .triangles + 2 ^ 32) t
+  Q t = Leaves (nodeCount (s .links)) besides (a .boxes) (a .triangles + 2 ^ 32) t
 
-  few : nodeOf (s .tree) i .count < 2 ^ 32
+  few : nodeOf s i .count < 2 ^ 32
   unfolding linked nodeAt
   few = small (i * 3 + 1)
 
-  pub visited : Q (visit s r i besides a)
+  pub visited : Q (visit mesh s r i besides a)
   unfolding visit judged opened
   visited =
-      let n = nodeCount (s .tree .links) in
-      let x = nodeOf (s .tree) i in
-      let leaf = openLeaf (s .mesh .triangles) (s .tree .index) r i x a in
+      let n = nodeCount (s .links) in
+      let x = nodeOf s i in
+      let leaf = openLeaf mesh (s .index) r i x a in
       let internal = openInternal n i x besides in
       let t = a .triangles in
       either Q (sound x) (cond (passes r (x .bounds)) (cond (eqb (x .kind) 1) leaf internal) Missed) (Refuse 9 i)
       (λ e. either Q (passes r (x .bounds)) (cond (eqb (x .kind) 1) leaf internal) Missed
       (λ f. either Q (eqb (x .kind) 1) leaf internal
-      (λ g. leaf-opened n besides (a .boxes) (t + 2 ^ 32) (s .mesh .triangles) (s .tree .index) r i t x a (record { tests = refl; most = omega arith }) (omega (arith, few)))
+      (λ g. leaf-opened n besides (a .boxes) (t + 2 ^ 32) mesh (s .index) r i t x a (record { tests = refl; most = omega arith }) (omega (arith, few)))
       (λ g. internal-opened n besides (a .boxes) (t + 2 ^ 32) i x))
       (λ f. tt))
       (λ e. tt)

@@ -5,7 +5,7 @@ use mathlib.Core.List.{List, [], _∷_}
 use lib.Dec.{leb, ltb, eqb}
 use lib.ListN.{length, getD}
 use lib.Ieee.{Float, lt, le}
-use Rattle.lent.specs.Ladder.{none, numbered, check, unless, ragged, crowded}
+use Rattle.lent.specs.Ladder.{none, numbered, check, unless, ragged, crowded, unlabelled}
 use Rattle.float.specs.Number.{infinity}
 use Rattle.aabb.specs.declared.vector.Ray.{Ray}
 use Rattle.aabb.specs.Vector.{admittedRay}
@@ -22,7 +22,7 @@ use Rattle.walk.specs.declared.tally.Tally.{Tally}
 use Rattle.walk.specs.declared.turn.Turn.{Turn}
 use Rattle.walk.specs.declared.turn.Turn.the-variants.{Refuse, Missed, Down, Open}
 use Rattle.tree.specs.declared.Node.{Node}
-use Rattle.tree.specs.Lent.{Mesh, Lent, nodeCount}
+use Rattle.tree.specs.Lent.{Mesh, Lists, Lent, materialOf, nodeCount}
 use Rattle.lent.specs.Limits.{most-nodes, most-pending}
 use Rattle.lent.specs.Ladder.{triangleCount}
 use Rattle.tree.specs.Node.{leftOrFirst, nodeOf, sound, leftOf, rightOf, misfit}
@@ -73,28 +73,28 @@ openInternal nodes i x besides =
     cond (leb nodes (leftOf i x) || leb nodes (rightOf i x)) (Refuse 9 i)
     (cond (ltb most-pending (besides + 2)) (Refuse 11 i) (Open (leftOf i x) (rightOf i x)))
 
-unfoldable pub opened : Lent → Ray → ℕ → Node → ℕ → Tally → Turn
-opened s r i x besides a =
-    cond (eqb (x .kind) 1) (openLeaf (s .mesh .triangles) (s .tree .index) r i x a)
-    (openInternal (nodeCount (s .tree .links)) i x besides)
+unfoldable pub opened : List Float → Lists → Ray → ℕ → Node → ℕ → Tally → Turn
+opened mesh s r i x besides a =
+    cond (eqb (x .kind) 1) (openLeaf mesh (s .index) r i x a)
+    (openInternal (nodeCount (s .links)) i x besides)
 
 -- Rule W3: an unsound node refuses the walk (9), a box that is missed drops its node
-unfoldable pub judged : Lent → Ray → ℕ → Node → ℕ → Tally → Turn
-judged s r i x besides a = cond (sound x) (cond (passes r (x .bounds)) (opened s r i x besides a) Missed) (Refuse 9 i)
+unfoldable pub judged : List Float → Lists → Ray → ℕ → Node → ℕ → Tally → Turn
+judged mesh s r i x besides a = cond (sound x) (cond (passes r (x .bounds)) (opened mesh s r i x besides a) Missed) (Refuse 9 i)
 
 -- Rule W2: node i, taken from the pending ones, with so many pending besides; its box test is counted
-unfoldable pub visit : Lent → Ray → ℕ → ℕ → Tally → Turn
-visit s r i besides a = judged s r i (nodeOf (s .tree) i) besides a
+unfoldable pub visit : List Float → Lists → Ray → ℕ → ℕ → Tally → Turn
+visit mesh s r i besides a = judged mesh s r i (nodeOf s i) besides a
 
 -- ---- the walk
 -- Rule W8: a number and a place, and nothing else
 abbrev pub refused : ℕ → ℕ → Told
 refused k i = record { refusal = numbered k i; hit = Nothing; boxes = 0; triangles = 0 }
 
--- Rule W6: the hit, made from its t and its triangle's number
+-- Rule W6: the hit, made from its t and its triangle's number, with the triangle's material
 unfoldable pub hitOf : Mesh → Ray → Nearest → Found
 hitOf m r Unmet = Nothing
-hitOf m r (Met t k) = At (hitAt r (triangleAt (m .triangles) k) k t)
+hitOf m r (Met t k) = At (hitAt r (triangleAt (m .triangles) k) k (materialOf m k) t)
 
 -- Rule W6: when no node is pending any more
 unfoldable pub over : Mesh → Ray → Tally → Told
@@ -112,14 +112,15 @@ unfoldable pub run : Lent → Ray → ℕ → List ℕ → Tally → Told
 run s r zero [] a = over (s .mesh) r a
 run s r zero (i ∷ rest) a = refused 12 i
 run s r (suc left) [] a = over (s .mesh) r a
-run s r (suc left) (i ∷ rest) a = onward (visit s r i (length rest) (boxed a)) rest (boxed a) (run s r left)
+run s r (suc left) (i ∷ rest) a = onward (visit (s .mesh .triangles) (s .tree) r i (length rest) (boxed a)) rest (boxed a) (run s r left)
 
--- Rule W1, after what can be told before any step: 1, 2, 7 and 8, the first of these that holds
+-- Rule W1, after what can be told before any step: 1, 2, 18, 7 and 8, the first of these that holds
 unfoldable pub walk : Lent → Ray → Told
 walk s r =
     unless
     (ragged (s .mesh .triangles)
     ∷ crowded (s .mesh .triangles)
+    ∷ unlabelled (s .mesh .triangles) (s .mesh .materials)
     ∷ check (not (admittedRay r)) 7 0
     ∷ check (misfit (s .tree .boxes) (s .tree .links)) 8 0
     ∷ [])

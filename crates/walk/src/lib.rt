@@ -41,8 +41,8 @@ pub enum Answer {
 }
 
 // The answer of a walk that has no node pending any more.
-fn over(triangles: &[f64], ray: Ray, a: Tally) -> Answer
-    ensures { λ r. ⌜ told r ≡ over (meshOf (now (triangles .entry))) ray a ⌝ }
+fn over(triangles: &[f64], materials: &[u32], ray: Ray, a: Tally) -> Answer
+    ensures { λ r. ⌜ told r ≡ over (meshOf (now (triangles .entry)) (now (materials .entry))) ray a ⌝ }
 {
     let best = a.nearest;
     match best {
@@ -51,7 +51,8 @@ fn over(triangles: &[f64], ray: Ray, a: Tally) -> Answer
             triangles: a.triangles,
         },
         Nearest::Met { t, number } => {
-            let hit = Triangle::read(triangles, number as usize).hit(ray, t, number);
+            let material = tree::word(materials, number as usize);
+            let hit = Triangle::read(triangles, number as usize).hit(ray, t, number, material);
             Answer::Struck {
                 hit,
                 boxes: a.boxes,
@@ -62,9 +63,16 @@ fn over(triangles: &[f64], ray: Ray, a: Tally) -> Answer
 }
 
 // The steps, from the root on.
-fn run(triangles: &[f64], index: &[u32], boxes: &[f64], links: &[u32], ray: Ray) -> Answer
+fn run(
+    triangles: &[f64],
+    materials: &[u32],
+    index: &[u32],
+    boxes: &[f64],
+    links: &[u32],
+    ray: Ray,
+) -> Answer
     requires { ⌜ (0 < nodeCount (now links)) × (nodeCount (now links) ≤ most-nodes) ⌝ }
-    ensures { λ r. ⌜ told r ≡ run (lent (now (triangles .entry)) (now (index .entry)) (now (boxes .entry)) (now (links .entry))) ray (nodeCount (now (links .entry))) (0 ∷ []) start ⌝ }
+    ensures { λ r. ⌜ told r ≡ run (lent (now (triangles .entry)) (now (materials .entry)) (now (index .entry)) (now (boxes .entry)) (now (links .entry))) ray (nodeCount (now (links .entry))) (0 ∷ []) start ⌝ }
 {
     let nodes = links.len() / 3;
     let aim = Aim::of(ray);
@@ -109,16 +117,23 @@ fn run(triangles: &[f64], index: &[u32], boxes: &[f64], links: &[u32], ray: Ray)
             }
         }
     }
-    over(triangles, ray, a)
+    over(triangles, materials, ray, a)
 }
 
 // The nearest hit of the ray among the triangles of the leaves that it reaches, from node 0 on through boxes that it passes, at an equal t the
 // one of the lowest number, or a miss, with the box tests and the triangle tests made; or a refusal (rules W1 to W5): 1 triangles that are not in
-// twelves; 2 more than 65,536 of them (at: how many); 7 the ray isn't admitted; 8 no links, links not in threes, more than 131,071 nodes, or not six
-// numbers of box for each; then by steps 12 more box tests than nodes (at: the node), 9 a bad node (the node), 10 an index entry of n or more
+// twelves; 2 more than 65,536 of them (at: how many); 18 not one material for each; 7 the ray isn't admitted; 8 no links, links not in threes, more
+// than 131,071 nodes, or not six numbers of box for each; then by steps 12 more box tests than nodes (at: the node), 9 a bad node (the node), 10 an index entry of n or more
 // (its place), 5 a triangle that isn't admitted (its number), 11 more than 64 pending (the node). It writes nothing.
-pub fn walk(triangles: &[f64], index: &[u32], boxes: &[f64], links: &[u32], ray: Ray) -> Answer
-    ensures { λ r. ⌜ told r ≡ walk (lent (now (triangles .entry)) (now (index .entry)) (now (boxes .entry)) (now (links .entry))) ray ⌝ }
+pub fn walk(
+    triangles: &[f64],
+    materials: &[u32],
+    index: &[u32],
+    boxes: &[f64],
+    links: &[u32],
+    ray: Ray,
+) -> Answer
+    ensures { λ r. ⌜ told r ≡ walk (lent (now (triangles .entry)) (now (materials .entry)) (now (index .entry)) (now (boxes .entry)) (now (links .entry))) ray ⌝ }
 {
     let numbers = triangles.len();
     if numbers % 12 != 0 {
@@ -131,11 +146,14 @@ pub fn walk(triangles: &[f64], index: &[u32], boxes: &[f64], links: &[u32], ray:
             at: n as u64,
         };
     }
+    if materials.len() != n {
+        return Answer::Refused { number: 18, at: 0 };
+    }
     if !ray.admitted() {
         return Answer::Refused { number: 7, at: 0 };
     }
     if tree::misfit(boxes, links) {
         return Answer::Refused { number: 8, at: 0 };
     }
-    run(triangles, index, boxes, links, ray)
+    run(triangles, materials, index, boxes, links, ray)
 }

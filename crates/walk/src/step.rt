@@ -8,7 +8,7 @@ use tree::Node;
 ghost use mathlib.Core.Path.{_≡_};
 ghost use Prim.Native.Nat.{_≤_};
 ghost use Rattle.aabb.specs.Slab.{aimed};
-ghost use Rattle.tree.specs.Lent.{lent};
+ghost use Rattle.tree.specs.Lent.{listsOf};
 ghost use Rattle.lent.specs.Limits.{most-nodes, most-pending};
 ghost use Rattle.walk.specs.Walk.{openInternal, visit};
 ghost use Rattle.walk.specs.inner.State.{Ready};
@@ -50,7 +50,7 @@ pub fn visit(
     a: Tally,
 ) -> Turn
     requires { ⌜ Ready (now links) i besides a × (aim ≡ aimed (aim .ray)) ⌝ }
-    ensures { λ r. ⌜ r ≡ visit (lent (now (triangles .entry)) (now (index .entry)) (now (boxes .entry)) (now (links .entry))) (aim .ray) i besides a ⌝ }
+    ensures { λ r. ⌜ r ≡ visit (now (triangles .entry)) (listsOf (now (index .entry)) (now (boxes .entry)) (now (links .entry))) (aim .ray) i besides a ⌝ }
 {
     let x = Node::read(boxes, links, i as usize);
     if !x.sound() {

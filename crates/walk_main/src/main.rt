@@ -56,6 +56,8 @@ fn show(label: &[u8], answer: Answer) {
             } else {
                 io::write_all(1, b" back");
             }
+            io::write_all(1, b" material");
+            count(hit.material as u64);
             io::write_all(1, b" tests");
             count(boxes);
             count(triangles);
@@ -134,10 +136,14 @@ fn alike(high: f64) -> [f64; 18] {
 // ---- the probes with one triangle
 fn one(label: &[u8], r: Ray) {
     let mesh = probe();
+    let materials = [70u32];
     let index = [0u32];
     let boxes = [0.0, 0.0, 0.0, 1.0, 1.0, 0.0];
     let links = [0u32, 1, 1];
-    show(label, walk::walk(&mesh, &index, &boxes, &links, r));
+    show(
+        label,
+        walk::walk(&mesh, &materials, &index, &boxes, &links, r),
+    );
 }
 
 fn probes() {
@@ -168,12 +174,16 @@ fn wide(label: &[u8], r: Ray) {
     let three = upward(two, 24, 32.0, 0.0, 3.0);
     let four = upward(three, 36, 48.0, 0.0, 3.0);
     let mesh = upward(four, 48, 64.0, 0.0, 3.0);
+    let materials = [80u32, 81, 82, 83, 84];
     let index = [0u32, 1, 3, 4, 2];
     let whole = spanned([0.0; 18], 0, 0.0, 67.0, 3.0, 0.0);
     let left = spanned(whole, 6, 0.0, 19.0, 3.0, 0.0);
     let boxes = spanned(left, 12, 32.0, 67.0, 3.0, 0.0);
     let links = [1u32, 0, 0, 0, 2, 1, 2, 3, 1];
-    show(label, walk::walk(&mesh, &index, &boxes, &links, r));
+    show(
+        label,
+        walk::walk(&mesh, &materials, &index, &boxes, &links, r),
+    );
 }
 
 fn split() {
@@ -196,25 +206,37 @@ fn split() {
 
 // ---- what is refused before the first step
 // One leaf over the triangle T, with so many numbers of each list.
-fn cut(label: &[u8], numbers: usize, entries: usize, bounds: usize, words: usize, r: Ray) {
+fn cut(
+    label: &[u8],
+    numbers: usize,
+    kinds: usize,
+    entries: usize,
+    bounds: usize,
+    words: usize,
+    r: Ray,
+) {
     let mesh = probe();
+    let materials = [70u32, 71];
     let index = [0u32];
     let boxes = [0.0, 0.0, 0.0, 1.0, 1.0, 0.0];
     let links = [0u32, 1, 1];
     if numbers <= 12 {
-        if entries <= 1 {
-            if bounds <= 6 {
-                if words <= 3 {
-                    show(
-                        label,
-                        walk::walk(
-                            &mesh[0..numbers],
-                            &index[0..entries],
-                            &boxes[0..bounds],
-                            &links[0..words],
-                            r,
-                        ),
-                    );
+        if kinds <= 2 {
+            if entries <= 1 {
+                if bounds <= 6 {
+                    if words <= 3 {
+                        show(
+                            label,
+                            walk::walk(
+                                &mesh[0..numbers],
+                                &materials[0..kinds],
+                                &index[0..entries],
+                                &boxes[0..bounds],
+                                &links[0..words],
+                                r,
+                            ),
+                        );
+                    }
                 }
             }
         }
@@ -224,26 +246,39 @@ fn cut(label: &[u8], numbers: usize, entries: usize, bounds: usize, words: usize
 fn entrances() {
     let r = down(0.25, 0.25, 1.0);
     let bad = down(0.25, 0.25, float::infinity());
-    cut(b"11 numbers of triangles", 11, 1, 6, 3, r);
-    cut(b"1 before 7", 11, 1, 6, 3, bad);
-    cut(b"no triangles", 0, 1, 6, 3, r);
-    cut(b"no links", 12, 1, 6, 0, r);
-    cut(b"no links and boxes", 12, 1, 0, 0, r);
-    cut(b"2 numbers of links", 12, 1, 4, 2, r);
-    cut(b"5 numbers of boxes", 12, 1, 5, 3, r);
-    cut(b"7 before 8", 12, 1, 6, 0, bad);
-    cut(b"no index list", 12, 0, 6, 3, r);
+    cut(b"11 numbers of triangles", 11, 1, 1, 6, 3, r);
+    cut(b"1 before 7", 11, 1, 1, 6, 3, bad);
+    cut(b"no triangles", 0, 0, 1, 6, 3, r);
+    cut(b"no material", 12, 0, 1, 6, 3, r);
+    cut(b"two materials", 12, 2, 1, 6, 3, r);
+    cut(b"1 before 18", 11, 2, 1, 6, 3, r);
+    cut(b"18 before 7", 12, 2, 1, 6, 3, bad);
+    cut(b"18 before 8", 12, 2, 1, 6, 0, r);
+    cut(b"no links", 12, 1, 1, 6, 0, r);
+    cut(b"no links and boxes", 12, 1, 1, 0, 0, r);
+    cut(b"2 numbers of links", 12, 1, 1, 4, 2, r);
+    cut(b"5 numbers of boxes", 12, 1, 1, 5, 3, r);
+    cut(b"7 before 8", 12, 1, 1, 6, 0, bad);
+    cut(b"no index list", 12, 1, 0, 6, 3, r);
 }
 
 // ---- bad nodes: the root of two nodes, with its numbers given
 fn root(label: &[u8], low: f64, high: f64, left_or_first: u32, amount: u32, kind: u32) {
     let mesh = probe();
+    let materials = [70u32];
     let index = [0u32];
     let boxes = [0.0, 0.0, low, 1.0, 1.0, high, 0.0, 0.0, 0.0, 1.0, 1.0, 0.0];
     let links = [left_or_first, amount, kind, 0, 1, 1];
     show(
         label,
-        walk::walk(&mesh, &index, &boxes, &links, down(0.25, 0.25, 1.0)),
+        walk::walk(
+            &mesh,
+            &materials,
+            &index,
+            &boxes,
+            &links,
+            down(0.25, 0.25, 1.0),
+        ),
     );
 }
 
@@ -281,25 +316,41 @@ fn nodes() {
 // The tree of no triangles (rule C3).
 fn vacant(label: &[u8], r: Ray) {
     let mesh = probe();
+    let materials = [70u32];
     let index = [0u32];
     let i = float::infinity();
     let boxes = [i, i, i, -i, -i, -i];
     let links = [0u32, 0, 1];
     show(
         label,
-        walk::walk(&mesh[0..0], &index[0..0], &boxes, &links, r),
+        walk::walk(
+            &mesh[0..0],
+            &materials[0..0],
+            &index[0..0],
+            &boxes,
+            &links,
+            r,
+        ),
     );
 }
 
 // ---- leaves and their entries: one leaf over two entries
 fn leaf(label: &[u8], first: u32, amount: u32, entry: u32, other: u32) {
     let mesh = probe();
+    let materials = [70u32];
     let index = [entry, other];
     let boxes = [0.0, 0.0, 0.0, 1.0, 1.0, 0.0];
     let links = [first, amount, 1];
     show(
         label,
-        walk::walk(&mesh, &index, &boxes, &links, down(0.25, 0.25, 1.0)),
+        walk::walk(
+            &mesh,
+            &materials,
+            &index,
+            &boxes,
+            &links,
+            down(0.25, 0.25, 1.0),
+        ),
     );
 }
 
@@ -334,12 +385,20 @@ fn second(label: &[u8], v1_y: f64, v2_z: f64, normal_z: f64, entry: u32, other: 
     let one = upward([0.0; 60], 0, 0.0, 0.0, 1.0);
     let two = upward(one, 12, 0.0, 0.0, 1.0);
     let mesh = changed(two, v1_y, v2_z, normal_z);
+    let materials = [70u32, 71];
     let index = [entry, other];
     let boxes = [0.0, 0.0, 0.0, 1.0, 1.0, 0.0];
     let links = [0u32, 2, 1];
     show(
         label,
-        walk::walk(&mesh[0..24], &index, &boxes, &links, down(0.25, 0.25, 1.0)),
+        walk::walk(
+            &mesh[0..24],
+            &materials,
+            &index,
+            &boxes,
+            &links,
+            down(0.25, 0.25, 1.0),
+        ),
     );
 }
 
@@ -358,6 +417,7 @@ fn triangles() {
 // ---- looping trees: every node internal, its children 0 and 1
 fn loop_of(label: &[u8], amount: usize) {
     let mesh = probe();
+    let materials = [70u32];
     let index = [0u32];
     let boxes = [0.0; 396];
     let links = [0u32; 198];
@@ -368,6 +428,7 @@ fn loop_of(label: &[u8], amount: usize) {
             label,
             walk::walk(
                 &mesh,
+                &materials,
                 &index,
                 &boxes[0..numbers],
                 &links[0..words],
@@ -391,12 +452,20 @@ fn loops() {
 // The root opens node 1, a leaf with a hit, and node 2, with its numbers given.
 fn shared(label: &[u8], left_or_first: u32, amount: u32, kind: u32) {
     let mesh = probe();
+    let materials = [70u32];
     let index = [0u32];
     let boxes = alike(0.0);
     let links = [1u32, 0, 0, 0, 1, 1, left_or_first, amount, kind];
     show(
         label,
-        walk::walk(&mesh, &index, &boxes, &links, down(0.25, 0.25, 1.0)),
+        walk::walk(
+            &mesh,
+            &materials,
+            &index,
+            &boxes,
+            &links,
+            down(0.25, 0.25, 1.0),
+        ),
     );
 }
 
@@ -405,12 +474,20 @@ fn tie(label: &[u8], left: u32, right: u32) {
     let one = upward([0.0; 60], 0, 0.0, 0.0, 1.0);
     let two = upward(one, 12, 0.0, 0.0, 1.0);
     let mesh = upward(two, 24, 0.0, 0.5, 1.0);
+    let materials = [70u32, 71, 72];
     let index = [left, right];
     let boxes = alike(0.5);
     let links = [1u32, 0, 0, 0, 1, 1, 1, 1, 1];
     show(
         label,
-        walk::walk(&mesh[0..36], &index, &boxes, &links, down(0.25, 0.25, 1.0)),
+        walk::walk(
+            &mesh[0..36],
+            &materials,
+            &index,
+            &boxes,
+            &links,
+            down(0.25, 0.25, 1.0),
+        ),
     );
 }
 
@@ -422,20 +499,22 @@ fn ties() {
 }
 
 // ---- skies: a hit, a ray that isn't admitted and a miss over the triangle T, with so many numbers of rays and of answer room, 9 before
-fn place(times: [f64; 4], told: [u64; 16], k: usize)
+fn place(times: [f64; 4], told: [u64; 20], k: usize)
     requires { ⌜ k ≤ 3 ⌝ }
 {
     io::write_all(1, b",");
     number(times[k]);
-    let at = 4 * k;
+    let at = 5 * k;
     count(told[at]);
     count(told[at + 1]);
     count(told[at + 2]);
     count(told[at + 3]);
+    count(told[at + 4]);
 }
 
-fn sky(label: &[u8], numbers: usize, timed: usize, words: usize) {
+fn sky(label: &[u8], kinds: usize, numbers: usize, timed: usize, words: usize) {
     let mesh = probe();
+    let materials = [70u32, 71];
     let index = [0u32];
     let boxes = [0.0, 0.0, 0.0, 1.0, 1.0, 0.0];
     let links = [0u32, 1, 1];
@@ -461,47 +540,52 @@ fn sky(label: &[u8], numbers: usize, timed: usize, words: usize) {
         -1.0,
     ];
     let mut times = [9.0; 4];
-    let mut told = [9u64; 16];
+    let mut told = [9u64; 20];
     if numbers <= 18 {
         if timed <= 4 {
-            if words <= 16 {
-                io::write_all(1, label);
-                match sky::sky(
-                    &mesh,
-                    &index,
-                    &boxes,
-                    &links,
-                    &rays[0..numbers],
-                    &mut times[0..timed],
-                    &mut told[0..words],
-                ) {
-                    Filled::Places => {
-                        io::write_all(1, b": places");
+            if words <= 20 {
+                if kinds <= 2 {
+                    io::write_all(1, label);
+                    match sky::sky(
+                        &mesh,
+                        &materials[0..kinds],
+                        &index,
+                        &boxes,
+                        &links,
+                        &rays[0..numbers],
+                        &mut times[0..timed],
+                        &mut told[0..words],
+                    ) {
+                        Filled::Places => {
+                            io::write_all(1, b": places");
+                        }
+                        Filled::Refused { number, at } => {
+                            io::write_all(1, b": refused");
+                            count(number as u64);
+                            io::write_all(1, b" at");
+                            count(at);
+                        }
                     }
-                    Filled::Refused { number, at } => {
-                        io::write_all(1, b": refused");
-                        count(number as u64);
-                        io::write_all(1, b" at");
-                        count(at);
-                    }
+                    place(times, told, 0);
+                    place(times, told, 1);
+                    place(times, told, 2);
+                    place(times, told, 3);
+                    io::write_all(1, b"\n");
                 }
-                place(times, told, 0);
-                place(times, told, 1);
-                place(times, told, 2);
-                place(times, told, 3);
-                io::write_all(1, b"\n");
             }
         }
     }
 }
 
 fn skies() {
-    sky(b"three rays", 18, 4, 16);
-    sky(b"three rays, room that just suffices", 18, 3, 12);
-    sky(b"one ray", 6, 4, 16);
-    sky(b"no rays", 0, 0, 0);
-    sky(b"17 numbers of rays", 17, 4, 16);
-    sky(b"14 before 13", 17, 0, 0);
-    sky(b"two times", 18, 2, 16);
-    sky(b"11 words", 18, 4, 11);
+    sky(b"three rays", 1, 18, 4, 20);
+    sky(b"three rays, room that just suffices", 1, 18, 3, 15);
+    sky(b"one ray", 1, 6, 4, 20);
+    sky(b"no rays", 1, 0, 0, 0);
+    sky(b"no material", 0, 18, 4, 20);
+    sky(b"18 before 14", 2, 17, 4, 20);
+    sky(b"17 numbers of rays", 1, 17, 4, 20);
+    sky(b"14 before 13", 1, 17, 0, 0);
+    sky(b"two times", 1, 18, 2, 20);
+    sky(b"14 words", 1, 18, 4, 14);
 }

@@ -17,6 +17,9 @@ cast-t13 c = search needs
 front-number-requires : tie.Need-front-number-requires
 front-number-requires c κs = search needs
 
+cast-t15 : tie.Need-cast-t15
+cast-t15 c = search needs
+
 enum-known-answer-2 : tie.Need-enum-known-answer-2
 enum-known-answer-2 c = search needs
 
@@ -25,7 +28,7 @@ enum-known-answer-3 c = search needs
 
 returns : tie.Need-returns
 unfolding told walked walkReport
-returns c = rw (c .before .before .before .before .before .answer .given .1, c .before .before .before .hit-numbers .ensures, c .before .front-number .ensures)
+returns c = rw (c .before .before .before .before .before .before .answer .given .1, c .before .before .before .before .hit-numbers .ensures, c .before .before .front-number .ensures)
 
 returns-2 : tie.Need-returns-2
 unfolding told walked walkReport
@@ -43,6 +46,7 @@ tell-walk-spec =
     hit-numbers-requires
     cast-t13
     front-number-requires
+    cast-t15
     enum-known-answer-2
     enum-known-answer-3
     returns

@@ -13,10 +13,10 @@ use Rattle.report.proofs.put_rays.Statement.{statement}
 use Rattle.report.proofs.put_rays.Tie as tie
 
 abbrev Inv-loop : tie.InvT-loop
-Inv-loop input from triangles index boxes links rays out₀ at k₀ next₀ out k next = (k ≤ rays) × (length out ≡ length out₀) × (next ≤ at + 128 * k) × Wrote out₀ at (rayLines input from (lent triangles index boxes links) k) out next
+Inv-loop input from triangles materials index boxes links rays out₀ at k₀ next₀ out k next = (k ≤ rays) × (length out ≡ length out₀) × (next ≤ at + 128 * k) × Wrote out₀ at (rayLines input from (lent triangles materials index boxes links) k) out next
 
 abbrev μ-loop : tie.MeasureT-loop
-μ-loop input from triangles index boxes links rays out₀ at k₀ next₀ out k next = rays - k
+μ-loop input from triangles materials index boxes links rays out₀ at k₀ next₀ out k next = rays - k
 
 loop-holds : tie.Need-loop-holds Inv-loop μ-loop
 unfolding rayLines
@@ -31,7 +31,7 @@ loop-again c =
       omega (arith, c .before .before .before .before .before .before .loop-test .taken),
       p .kept .0 ∙ l .inv .1,
       omega (arith, p .ensures .1, l .inv .2),
-      wrote-as _ _ _ _ _ _ (lines-more _ _ _ _ _ _ (r .ensures) (w .ensures)) (and-then _ _ _ _ _ _ _ _ (omega (arith, l .inv .2, c .before .before .before .before .before .before .loop-test .taken, c .before .before .before .before .before .before .before .before .before .before .before .before .before .before .pre)) (l .inv .3) (p .ensures .0)),
+      wrote-as _ _ _ _ _ _ (lines-more _ _ _ _ _ _ (r .ensures) (w .ensures)) (and-then _ _ _ _ _ _ _ _ (omega (arith, l .inv .2, c .before .before .before .before .before .before .loop-test .taken, c .before .before .before .before .before .before .before .before .before .before .before .before .before .before .before .pre)) (l .inv .3) (p .ensures .0)),
     )
 
 same-length : tie.Need-same-length Inv-loop μ-loop
@@ -40,7 +40,7 @@ same-length c = c .before .loop .inv .1
 returns : tie.Need-returns Inv-loop μ-loop
 returns c =
     let l = c .before .loop in
-    let e : l .k ≡ c .before .before .before .before .before .before .before .before .args .rays = omega (arith, l .inv .0, c .loop-test .left) in
+    let e : l .k ≡ c .before .before .before .before .before .before .before .before .before .args .rays = omega (arith, l .inv .0, c .loop-test .left) in
     lines-all _ _ _ _ _ _ _ _ _ e (l .inv .3)
 
 pub put-rays-spec : {M : Type 1} → statement M

@@ -16,10 +16,10 @@ returns c =
 returns-2 : tie.Need-returns-2
 unfolding builtOf
 returns-2 c =
-    let b = c .before .before .before .before .before .before .before .before .before .before .before .before .before .before .before .before .before .before .before .before .before .build in
-    let p = c .before .before .before .before .before .before .before .before .before .before .before .before .before .put-built in
-    let w = handed-is _ _ _ _ _ _ _ _ (b .kept .1 .1 .0) (b .kept .1 .1 .1 .0) (c .before .before .before .before .before .before .before .before .before .before .at-most-399 .ensures) in
-    wrote-as _ _ _ _ _ _ (built-report _ _ _ _ _ _ _ _ (b .ensures) _ _ _ (c .before .before .before .before .before .before .before .before .before .before .before .before .before .before .before .before .answer2 .given .1) w) (and-then _ _ _ _ _ _ _ _ (omega (arith, p .ensures .1, c .before .before .before .before .before .before .before .before .before .before .before .before .before .before .before .before .before .before .before .before .before .before .before .before .before .before .before .before .pre)) (p .ensures .0) (c .before .before .put-rays .ensures))
+    let b = c .before .before .before .before .before .before .before .before .before .before .before .before .before .before .before .before .before .before .before .before .before .before .before .build in
+    let p = c .before .before .before .before .before .before .before .before .before .before .before .before .before .before .before .put-built in
+    let w = handed-is _ _ _ _ _ _ _ _ (c .before .before .before .before .before .before .before .before .before .before .before .before .before .before .before .before .before .before .before .before .before .before .before .before .before .before .before .before .before .before .pre .0) (b .kept .1 .1 .0) (b .kept .1 .1 .1 .0) (c .before .before .before .before .before .before .before .before .before .before .before .before .at-most-399 .ensures) in
+    wrote-as _ _ _ _ _ _ (built-report _ _ _ _ _ _ _ _ (b .ensures) _ _ _ (c .before .before .before .before .before .before .before .before .before .before .before .before .before .before .before .before .before .before .answer2 .given .1) w) (and-then _ _ _ _ _ _ _ _ (omega (arith, p .ensures .1, c .before .before .before .before .before .before .before .before .before .before .before .before .before .before .before .before .before .before .before .before .before .before .before .before .before .before .before .before .before .before .pre)) (p .ensures .0) (c .before .before .put-rays .ensures))
 
 pub report-spec : {M : Type 1} → statement M
 report-spec =
@@ -28,7 +28,7 @@ report-spec =
     (λ c. search needs) (λ c. search needs) (λ c. search needs) (λ c κs. search needs) (λ c. search needs) (λ c κs. search needs) (λ c. search needs)
     (λ c κs. search needs) (λ c κs. search needs) (λ c. search needs) (λ c. search needs) (λ c. search needs) (λ c. search needs) (λ c. search needs)
     (λ c. search needs) (λ c. search needs) (λ c. search needs) (λ c. search needs) (λ c. search needs) (λ c. search needs) (λ c. search needs)
-    (λ c. search needs) (λ c κs. search needs) (λ c. search needs)
+    (λ c. search needs) (λ c. search needs) (λ c. search needs) (λ c. search needs) (λ c κs. search needs) (λ c. search needs)
     returns
     (λ c. search needs)
     returns-2)

@@ -13,10 +13,10 @@ use Rattle.sky.proofs.fill.Statement.{statement}
 use Rattle.sky.proofs.fill.Tie as tie
 
 abbrev Inv-loop : tie.InvT-loop
-Inv-loop triangles index boxes links rays n times₀ told₀ k₀ times told k = (k ≤ n) × (length times ≡ length times₀) × (length told ≡ length told₀) × (times ≡ records (timesFor (lent triangles index boxes links) rays) k ++ drop k times₀) × (told ≡ records (toldFor (lent triangles index boxes links) rays) k ++ drop (k * 4) told₀)
+Inv-loop triangles materials index boxes links rays n times₀ told₀ k₀ times told k = (k ≤ n) × (length times ≡ length times₀) × (length told ≡ length told₀) × (times ≡ records (timesFor (lent triangles materials index boxes links) rays) k ++ drop k times₀) × (told ≡ records (toldFor (lent triangles materials index boxes links) rays) k ++ drop (k * 5) told₀)
 
 abbrev μ-loop : tie.MeasureT-loop
-μ-loop triangles index boxes links rays n times₀ told₀ k₀ times told k = n - k
+μ-loop triangles materials index boxes links rays n times₀ told₀ k₀ times told k = n - k
 
 loop-holds : tie.Need-loop-holds Inv-loop μ-loop
 loop-holds c = (search needs, refl, refl, none-yet _ _ _, none-told _ _ _)
@@ -25,17 +25,17 @@ put-requires : tie.Need-put-requires Inv-loop μ-loop
 put-requires c κs =
     let l = c .before .before .before .before .before .before .loop in
     let h = c .before .before .before .before .before .loop-test .taken in
-    let p = c .before .before .before .before .before .before .before .before .before .before .before .before .before .before .pre in
+    let p = c .before .before .before .before .before .before .before .before .before .before .before .before .before .before .before .pre in
     (omega (arith, h, p .0, l .inv .1), omega (arith, h, p .1, l .inv .2))
 
 add-k : tie.Need-add-k Inv-loop μ-loop
-add-k c = omega (arith, c .before .before .before .before .before .before .before .before .before .before .loop-test .taken, c .before .before .before .before .before .before .before .before .before .before .before .before .before .before .before .before .before .before .before .fits)
+add-k c = omega (arith, c .before .before .before .before .before .before .before .before .before .before .loop-test .taken, c .before .before .before .before .before .before .before .before .before .before .before .before .before .before .before .before .before .before .before .before .fits)
 
 loop-again : tie.Need-loop-again Inv-loop μ-loop
 loop-again c =
     let l = c .before .before .before .before .before .before .before .before .before .before .before .loop in
     let h = c .before .before .before .before .before .before .before .before .before .before .loop-test .taken in
-    let p = c .before .before .before .before .before .before .before .before .before .before .before .before .before .before .before .before .before .before .before .pre in
+    let p = c .before .before .before .before .before .before .before .before .before .before .before .before .before .before .before .before .before .before .before .before .pre in
     let put = c .before .before .before .before .put in
     let is = place-is _ _ (l .k) _ _ _ (c .before .before .before .before .before .before .before .before .before .read .ensures) (c .before .before .before .before .before .before .before .before .walk .ensures) (c .before .before .before .before .before .place-of .ensures) in (
       omega (arith, h),
@@ -54,11 +54,11 @@ same-length-2 c = c .before .loop .inv .2
 returns : tie.Need-returns Inv-loop μ-loop
 returns c =
     let l = c .before .loop in
-    let a = c .before .before .before .before .before .before .before .before .before .args in
-    let s = lent (a .triangles .now) (a .index .now) (a .boxes .now) (a .links .now) in
+    let a = c .before .before .before .before .before .before .before .before .before .before .args in
+    let s = lent (a .triangles .now) (a .materials .now) (a .index .now) (a .boxes .now) (a .links .now) in
     let e : l .k ≡ a .n = omega (arith, l .inv .0, c .loop-test .left) in (
       l .inv .3 ∙ ap (λ (j : ℕ). records (timesFor s (a .rays .now)) j ++ drop j (a .times .now)) e,
-      l .inv .4 ∙ ap (λ (j : ℕ). records (toldFor s (a .rays .now)) j ++ drop (j * 4) (a .told .now)) e,
+      l .inv .4 ∙ ap (λ (j : ℕ). records (toldFor s (a .rays .now)) j ++ drop (j * 5) (a .told .now)) e,
     )
 
 pub fill-spec : {M : Type 1} → statement M

@@ -7,7 +7,7 @@ use Rattle.sky.proofs.place_of.Tie as tie
 
 returns : tie.Need-returns
 unfolding told placeOf placed
-returns c = rw (c .before .before .answer .given .1)
+returns c = rw (c .before .before .before .answer .given .1)
 
 returns-2 : tie.Need-returns-2
 unfolding told placeOf placed
@@ -21,7 +21,7 @@ pub place-of-spec : {M : Type 1} → statement M
 place-of-spec =
     tie.close
     (tie.spec
-    (λ c. search needs) (λ c. search needs) (λ c. search needs) (λ c. search needs) (λ c. search needs)
+    (λ c. search needs) (λ c. search needs) (λ c. search needs) (λ c. search needs) (λ c. search needs) (λ c. search needs)
     returns
     returns-2
     returns-3)

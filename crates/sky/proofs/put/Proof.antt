@@ -1,4 +1,4 @@
--- Five stores, in the definition's order. Assumes nothing.
+-- Six stores, in the definition's order. Assumes nothing.
 use mathlib.Core.Path.{refl}
 use native.Mathlib.Omega.{arith}
 use lib.ListN.{length-set}
@@ -16,6 +16,9 @@ slice-write-told-3 c = simp length-set (omega arith)
 slice-write-told-4 : tie.Need-slice-write-told-4
 slice-write-told-4 c = simp length-set (omega arith)
 
+slice-write-told-5 : tie.Need-slice-write-told-5
+slice-write-told-5 c = simp length-set (omega arith)
+
 same-length : tie.Need-same-length
 same-length c = simp length-set
 
@@ -23,7 +26,7 @@ same-length-2 : tie.Need-same-length-2
 same-length-2 c = simp length-set
 
 returns : tie.Need-returns
-returns c = (refl, written 4 _ _ _ _)
+returns c = (refl, written 5 _ _ _ _)
 
 pub put-spec : {M : Type 1} → statement M
 put-spec =
@@ -35,6 +38,8 @@ put-spec =
     slice-write-told-3
     (λ c. search needs) (λ c. search needs)
     slice-write-told-4
+    (λ c. search needs) (λ c. search needs)
+    slice-write-told-5
     same-length
     same-length-2
     returns)

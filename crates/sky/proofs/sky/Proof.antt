@@ -22,38 +22,53 @@ returns-3 c = ends (goes (agree (c .before .before .if1 .left)) (goes (not-below
 returns-4 : tie.Need-returns-4
 unfolding sky skyRefusal
 returns-4 c =
-    let m = c .before .before in
-    ends (goes (agree (m .before .if1 .left)) (goes (not-below (m .if2 .left)) (goes (agree (c .before .if3 .left)) (stops (below (c .if4 .taken)) refl))))
+    let l = c .before in
+    let m = l .before in
+    ends (goes (agree (m .before .if1 .left)) (goes (not-below (m .if2 .left)) (goes (agree (l .if3 .left)) (stops (differ (c .if4 .taken)) refl))))
 
 returns-5 : tie.Need-returns-5
 unfolding sky skyRefusal
 returns-5 c =
-    let r = c .before .before in
-    let m = r .before in
+    let l = c .before .before in
+    let m = l .before in
     ends
     (goes (agree (m .before .if1 .left))
-    (goes (not-below (m .if2 .left)) (goes (agree (r .if3 .left)) (goes (not-below (c .before .if4 .left)) (stops (below (c .if5 .taken)) refl)))))
-
-fill-requires : tie.Need-fill-requires
-fill-requires c κs = (c .before .before .before .if4 .left, c .before .before .if5 .left)
-
-same-length : tie.Need-same-length
-same-length c = c .before .before .before .before .fill .kept .1 .1 .1 .1 .1 .1 .0
-
-same-length-2 : tie.Need-same-length-2
-same-length-2 c = c .before .before .before .before .fill .kept .1 .1 .1 .1 .1 .1 .1 .0
+    (goes (not-below (m .if2 .left)) (goes (agree (l .if3 .left)) (goes (agree (c .before .if4 .left)) (stops (below (c .if5 .taken)) refl)))))
 
 returns-6 : tie.Need-returns-6
 unfolding sky skyRefusal
 returns-6 c =
-    let f = c .before .before .before .before in
-    let t = f .before .before .before in
-    let r = t .before .before in
-    let m = r .before in
+    let r = c .before .before in
+    let l = r .before in
+    let m = l .before in
     ends
     (goes (agree (m .before .if1 .left))
     (goes (not-below (m .if2 .left))
-    (goes (agree (r .if3 .left)) (goes (not-below (t .before .if4 .left)) (goes (not-below (t .if5 .left)) (serves (filled-is _ _ _ _ _ _ _ (f .fill .ensures .0) (f .fill .ensures .1))))))))
+    (goes (agree (l .if3 .left)) (goes (agree (r .if4 .left)) (goes (not-below (c .before .if5 .left)) (stops (below (c .if6 .taken)) refl))))))
+
+fill-requires : tie.Need-fill-requires
+fill-requires c κs = (c .before .before .before .if5 .left, c .before .before .if6 .left)
+
+same-length : tie.Need-same-length
+same-length c = c .before .before .before .before .fill .kept .1 .1 .1 .1 .1 .1 .1 .0
+
+same-length-2 : tie.Need-same-length-2
+same-length-2 c = c .before .before .before .before .fill .kept .1 .1 .1 .1 .1 .1 .1 .1 .0
+
+returns-7 : tie.Need-returns-7
+unfolding sky skyRefusal
+returns-7 c =
+    let f = c .before .before .before .before in
+    let t = f .before .before .before in
+    let r = t .before .before in
+    let l = r .before in
+    let m = l .before in
+    ends
+    (goes (agree (m .before .if1 .left))
+    (goes (not-below (m .if2 .left))
+    (goes (agree (l .if3 .left))
+    (goes (agree (r .if4 .left))
+    (goes (not-below (t .before .if5 .left)) (goes (not-below (t .if6 .left)) (serves (filled-is _ _ _ _ _ _ _ (f .fill .ensures .0) (f .fill .ensures .1)))))))))
 
 pub sky-spec : {M : Type 1} → statement M
 sky-spec =
@@ -63,9 +78,10 @@ sky-spec =
     returns-2
     returns-3
     returns-4
-    (λ c. search needs)
     returns-5
+    (λ c. search needs)
+    returns-6
     fill-requires
     same-length
     same-length-2
-    returns-6)
+    returns-7)

@@ -7,7 +7,7 @@ use Rattle.tree.proofs.word.Statement.{statement}
 use Rattle.tree.proofs.word.Tie as tie
 
 returns-2 : tie.Need-returns-2
-returns-2 c = sym (List·getD-eq-default (now (c .before .args .links)) 0 (c .if1 .left))
+returns-2 c = sym (List·getD-eq-default (now (c .before .args .words)) 0 (c .if1 .left))
 
 pub word-spec : {M : Type 1} → statement M
 word-spec = tie.close (tie.spec (λ c. search needs) (λ c. search needs) (λ c. search needs) returns-2)

@@ -11,6 +11,12 @@ enum-told c = search needs
 enum-known-best : tie.Need-enum-known-best
 enum-known-best c = search needs
 
+cast-word : tie.Need-cast-word
+cast-word c = search needs
+
+word-requires : tie.Need-word-requires
+word-requires c κs = search needs
+
 cast-read : tie.Need-cast-read
 cast-read c = search needs
 
@@ -26,9 +32,9 @@ returns c = rw (c .enum-told .given .1)
 
 returns-2 : tie.Need-returns-2
 unfolding told over hitOf
-returns-2 c = rw (c .before .before .before .best .given .1, c .hit .ensures, c .before .read .ensures)
+returns-2 c = let r = c .before in rw (r .before .before .before .best .given .1, c .hit .ensures, r .read .ensures, r .before .word .ensures)
 
 pub over-spec : {M : Type 1} → statement M
 over-spec =
     tie.close
-    (tie.spec enum-told enum-known-best cast-read read-requires hit-requires returns returns-2)
+    (tie.spec enum-told enum-known-best cast-word word-requires cast-read read-requires hit-requires returns returns-2)

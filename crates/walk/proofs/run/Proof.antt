@@ -16,20 +16,20 @@ use Rattle.walk.proofs.run.Statement.{statement}
 use Rattle.walk.proofs.run.Tie as tie
 
 abbrev Inv-loop : tie.InvT-loop
-Inv-loop triangles index boxes links ray nodes aim pending₀ last₀ a₀ pending last a = Going (lent triangles index boxes links) ray nodes pending a × (0 < pending .len → last ≡ lastOf pending) × (length (pending .nodes) ≡ most-pending)
+Inv-loop triangles materials index boxes links ray nodes aim pending₀ last₀ a₀ pending last a = Going (lent triangles materials index boxes links) ray nodes pending a × (0 < pending .len → last ≡ lastOf pending) × (length (pending .nodes) ≡ most-pending)
 
 abbrev μ-loop : tie.MeasureT-loop
-μ-loop triangles index boxes links ray nodes aim pending₀ last₀ a₀ pending last a = nodes - a .boxes
+μ-loop triangles materials index boxes links ray nodes aim pending₀ last₀ a₀ pending last a = nodes - a .boxes
 
 -- the lists and the ray that came in
 abbrev lists : tie.At-loop Inv-loop μ-loop → Lent
-lists L = let A = L .before .before .before .before .before .before .before .args in lent (A .triangles .now) (A .index .now) (A .boxes .now) (A .links .now)
+lists L = let A = L .before .before .before .before .before .before .before .before .args in lent (A .triangles .now) (A .materials .now) (A .index .now) (A .boxes .now) (A .links .now)
 
 abbrev ray : tie.At-loop Inv-loop μ-loop → Ray
-ray L = L .before .before .before .before .before .before .before .args .ray
+ray L = L .before .before .before .before .before .before .before .before .args .ray
 
 small : (L : tie.At-loop Inv-loop μ-loop) (k : ℕ) → getD (lists L .tree .links) k 0 < 2 ^ 32
-small L k = omega (arith, L .before .before .before .shared-slice-known4 .given k)
+small L k = omega (arith, L .before .before .before .shared-slice-known5 .given k)
 
 -- the node that is taken, with its box test counted, and what its visit gives
 counting : (b : tie.After-boxed Inv-loop μ-loop) → let L = b .before .before .before in Counting (lists L) (ray L) (nodeCount (lists L .tree .links)) (L .loop .pending) (L .loop .a) (b .boxed .result)
@@ -42,13 +42,13 @@ counting b =
     }
 
 seen : (v : tie.After-visit Inv-loop μ-loop)
-    → let L = v .before .before .before .before in v .visit .result ≡ visit (lists L) (ray L) (lastOf (L .loop .pending)) (L .loop .pending .len - 1) (v .before .boxed .result)
+    → let L = v .before .before .before .before in v .visit .result ≡ visit (lists L .mesh .triangles) (lists L .tree) (ray L) (lastOf (L .loop .pending)) (L .loop .pending .len - 1) (v .before .boxed .result)
 seen v =
     let L = v .before .before .before .before in
     let b = v .before .boxed .result in
     v .visit .ensures
-    ∙ ap (λ (r : Ray). visit (lists L) r (L .loop .last) (L .loop .pending .len - 1) b) (its-ray _ _ (L .before .before .of .ensures))
-    ∙ ap (λ (i : ℕ). visit (lists L) (ray L) i (L .loop .pending .len - 1) b) (L .loop .inv .1 (v .before .before .before .loop-test .taken))
+    ∙ ap (λ (r : Ray). visit (lists L .mesh .triangles) (lists L .tree) r (L .loop .last) (L .loop .pending .len - 1) b) (its-ray _ _ (L .before .before .of .ensures))
+    ∙ ap (λ (i : ℕ). visit (lists L .mesh .triangles) (lists L .tree) (ray L) i (L .loop .pending .len - 1) b) (L .loop .inv .1 (v .before .before .before .loop-test .taken))
 
 of-requires : tie.Need-of-requires Inv-loop μ-loop
 of-requires c κs = search needs
@@ -58,14 +58,14 @@ root-requires c κs = search needs
 
 loop-holds : tie.Need-loop-holds Inv-loop μ-loop
 loop-holds c =
-    let S = c .before .before .before .before .before .before in
+    let S = c .before .before .before .before .before .before .before in
     (begun _ _ _ (S .pre .0) (S .pre .1) (c .root .ensures .0) (c .root .ensures .1), λ h. sym (root-last _ _ (c .root .ensures .0) (c .root .ensures .1)), c .root .ensures .2)
 
 sub-besides : tie.Need-sub-besides Inv-loop μ-loop
 sub-besides c = search needs
 
-cast-t23 : tie.Need-cast-t23 Inv-loop μ-loop
-cast-t23 c =
+cast-t24 : tie.Need-cast-t24 Inv-loop μ-loop
+cast-t24 c =
     let l = c .before .before .loop in
     omega (arith, l .inv .1 (c .before .loop-test .taken), all-below (l .inv .0) (c .before .loop-test .taken) .0, l .inv .0 .few)
 
@@ -226,7 +226,7 @@ run-spec =
     root-requires
     loop-holds
     sub-besides
-    cast-t23
+    cast-t24
     returns
     boxed-requires
     visit-requires

@@ -17,41 +17,51 @@ returns-2 : tie.Need-returns-2
 unfolding told walk
 returns-2 c = ends (goes (agree (c .before .if1 .left)) (stops (below (c .if2 .taken)) refl))
 
-admitted-requires : tie.Need-admitted-requires
-admitted-requires c κs = search needs
-
 returns-3 : tie.Need-returns-3
 unfolding told walk
-returns-3 c =
-    let m = c .before .before in
-    ends (goes (agree (m .before .if1 .left)) (goes (not-below (m .if2 .left)) (stops (ap not (sym (c .before .admitted .ensures)) ∙ c .if3 .taken) refl)))
+returns-3 c = let m = c .before in ends (goes (agree (m .before .if1 .left)) (goes (not-below (m .if2 .left)) (stops (differ (c .if3 .taken)) refl)))
 
-misfit-requires : tie.Need-misfit-requires
-misfit-requires c κs = search needs
+admitted-requires : tie.Need-admitted-requires
+admitted-requires c κs = search needs
 
 returns-4 : tie.Need-returns-4
 unfolding told walk
 returns-4 c =
-    let r = c .before .before in
-    let m = r .before .before in
+    let l = c .before .before in
+    let m = l .before in
     ends
     (goes (agree (m .before .if1 .left))
-    (goes (not-below (m .if2 .left))
-    (goes (ap not (sym (r .before .admitted .ensures)) ∙ r .if3 .left) (stops (sym (c .before .misfit .ensures) ∙ c .if4 .taken) refl))))
+    (goes (not-below (m .if2 .left)) (goes (agree (l .if3 .left)) (stops (ap not (sym (c .before .admitted .ensures)) ∙ c .if4 .taken) refl))))
 
-run-requires : tie.Need-run-requires
-run-requires c κs = fitting _ _ (sym (c .before .misfit .ensures) ∙ c .if4 .left)
+misfit-requires : tie.Need-misfit-requires
+misfit-requires c κs = search needs
 
 returns-5 : tie.Need-returns-5
-unfolding walk
+unfolding told walk
 returns-5 c =
-    let f = c .before .before in
-    let r = f .before in
-    let m = r .before .before in
+    let r = c .before .before in
+    let l = r .before .before in
+    let m = l .before in
     ends
     (goes (agree (m .before .if1 .left))
     (goes (not-below (m .if2 .left))
-    (goes (ap not (sym (r .before .admitted .ensures)) ∙ r .if3 .left) (goes (sym (f .misfit .ensures) ∙ c .before .if4 .left) (serves (c .run .ensures))))))
+    (goes (agree (l .if3 .left)) (goes (ap not (sym (r .before .admitted .ensures)) ∙ r .if4 .left) (stops (sym (c .before .misfit .ensures) ∙ c .if5 .taken) refl)))))
+
+run-requires : tie.Need-run-requires
+run-requires c κs = fitting _ _ (sym (c .before .misfit .ensures) ∙ c .if5 .left)
+
+returns-6 : tie.Need-returns-6
+unfolding walk
+returns-6 c =
+    let f = c .before .before in
+    let r = f .before in
+    let l = r .before .before in
+    let m = l .before in
+    ends
+    (goes (agree (m .before .if1 .left))
+    (goes (not-below (m .if2 .left))
+    (goes (agree (l .if3 .left))
+    (goes (ap not (sym (r .before .admitted .ensures)) ∙ r .if4 .left) (goes (sym (f .misfit .ensures) ∙ c .before .if5 .left) (serves (c .run .ensures)))))))
 
 pub walk-spec : {M : Type 1} → statement M
 walk-spec =
@@ -59,9 +69,10 @@ walk-spec =
     (tie.spec
     returns
     returns-2
-    admitted-requires
     returns-3
-    misfit-requires
+    admitted-requires
     returns-4
+    misfit-requires
+    returns-5
     run-requires
-    returns-5)
+    returns-6)

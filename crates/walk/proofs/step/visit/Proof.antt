@@ -2,7 +2,9 @@
 use mathlib.Core.Path.{_≡_, sym, _∙_}
 use mathlib.Core.Bool.{true, false, not}
 use borrow.Author.Tests.{not-true, not-false}
-use Rattle.tree.specs.Lent.{Lent, lent}
+use mathlib.Core.List.{List}
+use lib.Ieee.{Float}
+use Rattle.tree.specs.Lent.{Lists, listsOf}
 use Rattle.tree.specs.Node.{sound}
 use Rattle.walk.proofs.VisitEnds.{not-passed, passed, unsound, outside, at-leaf, at-internal}
 use borrow.Author.Needs.{needs}
@@ -15,8 +17,11 @@ read-requires c κs = search needs
 sound-requires : tie.Need-sound-requires
 sound-requires c κs = search needs
 
-abbrev given : tie.After-read → Lent
-given c = let A = c .before .before .before .before .before .args in lent (A .triangles .now) (A .index .now) (A .boxes .now) (A .links .now)
+abbrev mesh : tie.After-read → List Float
+mesh c = c .before .before .before .before .before .args .triangles .now
+
+abbrev given : tie.After-read → Lists
+given c = let A = c .before .before .before .before .before .args in listsOf (A .index .now) (A .boxes .now) (A .links .now)
 
 sound-node : (c : tie.After-sound) → not (c .sound .result) ≡ false → sound (c .before .read .result) ≡ true
 sound-node c h = sym (c .sound .ensures) ∙ not-false _ h
@@ -24,7 +29,7 @@ sound-node c h = sym (c .sound .ensures) ∙ not-false _ h
 returns : tie.Need-returns
 returns c =
     let k = c .before .before in
-    unsound (given k) _ _ _ _ (k .read .result) (k .read .ensures) (sym (c .before .sound .ensures) ∙ not-true _ (c .if1 .taken))
+    unsound (mesh k) (given k) _ _ _ _ (k .read .result) (k .read .ensures) (sym (c .before .sound .ensures) ∙ not-true _ (c .if1 .taken))
 
 through-requires : tie.Need-through-requires
 through-requires c κs = search needs
@@ -38,7 +43,7 @@ returns-2 c =
     let f = t .before in
     let k = f .before .before in
     let A = k .before .before .before .before .before in
-    outside (given k) _ _ _ _ (k .read .result) (k .read .ensures) (sound-node (f .before) (f .if1 .left)) (not-passed _ _ (A .pre .1) _ (t .through .ensures) (c .enum-told .given .1))
+    outside (mesh k) (given k) _ _ _ _ (k .read .result) (k .read .ensures) (sound-node (f .before) (f .if1 .left)) (not-passed _ _ (A .pre .1) _ (t .through .ensures) (c .enum-told .given .1))
 
 enum-told-2 : tie.Need-enum-told-2
 enum-told-2 c = search needs
@@ -53,7 +58,7 @@ returns-3 c =
     let f = t .before in
     let k = f .before .before in
     let A = k .before .before .before .before .before in
-    c .open .ensures ∙ at-leaf (given k) _ _ _ _ (k .read .result) (k .read .ensures) (sound-node (f .before) (f .if1 .left)) (passed _ _ (A .pre .1) _ (t .through .ensures) _ _ (n .enum-told2 .given .1)) (c .before .if2 .taken)
+    c .open .ensures ∙ at-leaf (mesh k) (given k) _ _ _ _ (k .read .result) (k .read .ensures) (sound-node (f .before) (f .if1 .left)) (passed _ _ (A .pre .1) _ (t .through .ensures) _ _ (n .enum-told2 .given .1)) (c .before .if2 .taken)
 
 open-internal-requires : tie.Need-open-internal-requires
 open-internal-requires c κs = search needs
@@ -65,7 +70,7 @@ returns-4 c =
     let f = t .before in
     let k = f .before .before in
     let A = k .before .before .before .before .before in
-    c .open-internal .ensures ∙ at-internal (given k) _ _ _ _ (k .read .result) (k .read .ensures) (sound-node (f .before) (f .if1 .left)) (passed _ _ (A .pre .1) _ (t .through .ensures) _ _ (n .enum-told2 .given .1)) (c .before .if2 .left)
+    c .open-internal .ensures ∙ at-internal (mesh k) (given k) _ _ _ _ (k .read .result) (k .read .ensures) (sound-node (f .before) (f .if1 .left)) (passed _ _ (A .pre .1) _ (t .through .ensures) _ _ (n .enum-told2 .given .1)) (c .before .if2 .left)
 
 pub visit-spec : {M : Type 1} → statement M
 visit-spec =
