@@ -88,12 +88,14 @@ its-material s r =
 -- ---- the same of each place of a sky
 place-but : (x : Refusal) (f g : Found) (b c : ℕ) → plainFound f ≡ plainFound g → SamePlaceBut (placed x f b c) (placed x g b c)
 unfolding placed
-place-but (numbered k i) f g b c e = record { outcome = refl; which = refl; t = refl; boxes = refl; triangles = refl }
-place-but none Nothing Nothing b c e = record { outcome = refl; which = refl; t = refl; boxes = refl; triangles = refl }
+place-but (numbered k i) f g b c e = record { outcome = refl; which = refl; t = refl; u = refl; v = refl; boxes = refl; triangles = refl }
+place-but none Nothing Nothing b c e = record { outcome = refl; which = refl; t = refl; u = refl; v = refl; boxes = refl; triangles = refl }
 place-but none (At h) (At g) b c e = record {
   outcome = refl;
   which = ap (λ (f : Found). placed none f b c .which) e;
   t = ap (λ (f : Found). placed none f b c .t) e;
+  u = ap (λ (f : Found). placed none f b c .u) e;
+  v = ap (λ (f : Found). placed none f b c .v) e;
   boxes = refl;
   triangles = refl;
 }
