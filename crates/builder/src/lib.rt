@@ -10,6 +10,8 @@ mod division; // division.rt: the division of a range, which calls itself
 mod start; // start.rt: what is tested and written before and after the division
 
 use division::Made;
+pub use start::clear_floats;
+pub use start::room;
 use triangle::Unadmitted;
 ghost use mathlib.Core.Path.{_≡_};
 ghost use Prim.Native.Nat.{_+_, _*_, _/_, _≤_, _-_};
@@ -45,7 +47,7 @@ pub fn build(triangles: &[f64], index: &mut [u32], boxes: &mut [f64], links: &mu
     if index.len() < n {
         return Built::Refused { number: 3, at: 0 };
     }
-    let room = start::room(n);
+    let room = start::room(n as u32);
     if boxes.len() / 6 < room {
         return Built::Refused {
             number: 4,

@@ -8,14 +8,13 @@ ghost use Rattle.lent.specs.Permutation.{upTo};
 ghost use Rattle.builder.specs.Build.{room};
 
 // R, the node room that n triangles ask: 2n-1, or 1 for none.
-pub fn room(n: usize) -> usize
-    requires { ⌜ n ≤ most-triangles ⌝ }
+pub fn room(n: u32) -> usize
     ensures { λ r. ⌜ r ≡ room n ⌝ }
 {
     if n == 0 {
         return 1;
     }
-    2 * n - 1
+    2 * (n as usize) - 1
 }
 
 // 0, 1, .., n-1

@@ -19,6 +19,7 @@ use Rattle.sky.specs.declared.Filled.{Filled}
 use Rattle.accept.specs.declared.Verdict.{Verdict}
 use Rattle.accept.specs.Accept.{ruling, Outcome as Judging, outcome as judging}
 use Rattle.sky.specs.Sky.{skyRefusal, Filling, filling}
+use Rattle.street.specs.Making.{Outcome as Making, outcome as making}
 use Rattle.watts.specs.declared.Counted.{Counted}
 use Rattle.watts.specs.Watts.{Outcome as Weighing}
 use Rattle.stl.specs.declared.Answer.{Answer as Transfer}
@@ -100,9 +101,19 @@ use Rattle.tree.proofs.misfit.Reads as tree-misfit
 use Rattle.tree.proofs.word.Reads as tree-word
 use Rattle.triangle.proofs.refill_normals.Reads as triangle-refill-normals
 use Rattle.builder.proofs.build.Reads as builder-build
+use Rattle.builder.proofs.room.Reads as builder-room
+use Rattle.builder.proofs.clear_floats.Reads as builder-clear-floats
 use Rattle.walk.proofs.walk.Reads as walk-walk
 use Rattle.sky.proofs.judge.Reads as sky-judge
 use Rattle.sky.proofs.sky.Reads as sky-sky
+use Rattle.street.proofs.rows.Matrix.read.Reads as matrix-read
+use Rattle.street.proofs.rows.Matrix.good.Reads as matrix-good
+use Rattle.street.proofs.rows.Matrix.point.Reads as matrix-point
+use Rattle.street.proofs.rows.Matrix.direction.Reads as matrix-direction
+use Rattle.street.proofs.rows.Matrix.normal.Reads as matrix-normal
+use Rattle.street.proofs.rows.Matrix.transform_ray.Reads as matrix-transform-ray
+use Rattle.street.proofs.rows.length.Reads as rows-length
+use Rattle.street.proofs.make.Reads as street-make
 use Rattle.watts.proofs.share.Reads as watts-share
 use Rattle.watts.proofs.watts.Reads as watts-watts
 use Rattle.accept.proofs.accept.Reads as accept-accept
@@ -139,6 +150,13 @@ build-same a b i j x y k l e = let t = build-told a b (ap (λ (o : Outcome). o .
 pub build-fixed : FixesAll builder-build.Post {C = Built × List ℕ × List Float × List ℕ} (λ κs r e. (r, e .1 .0 .now, e .1 .1 .0 .now, e .1 .1 .1 .0 .now))
 build-fixed κs x r r' e e' p q = build-same r r' _ _ _ _ _ _ (p ∙ sym q)
 
+-- the builder's room, and what it leaves of a list that it clears
+pub room-fixed : Fixes builder-room.Post
+room-fixed = fixed
+
+pub clear-fixed : FixesAll builder-clear-floats.Post {C = List Float} (λ κs r e. e .0 .now)
+clear-fixed κs x r r' e e' p q = p ∙ sym q
+
 -- `walk` writes nothing lent, and what an answer tells fixes the answer
 told-fixes : (a a' : Answer) → told a ≡ told a' → a ≡ a'
 unfolding told
@@ -164,6 +182,18 @@ sky-same a b x y k l e = let t = sky-told a b (ap (λ (o : Filling). o .refusal)
 
 pub sky-fixed : FixesAll sky-sky.Post {C = Filled × List Float × List ℕ} (λ κs r e. (r, e .1 .1 .1 .1 .1 .1 .0 .now, e .1 .1 .1 .1 .1 .1 .1 .0 .now))
 sky-fixed κs x r r' e e' p q = sky-same r r' _ _ _ _ (p ∙ sym q)
+
+-- the calls of `street`, but for `make`
+pub rows-fixed : Fixes matrix-read.Post × Fixes matrix-good.Post × Fixes matrix-point.Post × Fixes matrix-direction.Post × Fixes matrix-normal.Post × Fixes matrix-transform-ray.Post × Fixes rows-length.Post
+rows-fixed = (fixed, fixed, fixed, fixed, fixed, fixed, fixed)
+
+-- the answer, and the proxies, index list, boxes and links at the end
+make-same : (a b : Built) (i j : List ℕ) (x y : List Float) (k l : List ℕ) (p q : List Float) → making (outcome (reply a) i x k) p ≡ making (outcome (reply b) j y l) q
+    → _≡_ {A = Built × List Float × List ℕ × List Float × List ℕ} (a, p, i, x, k) (b, q, j, y, l)
+make-same a b i j x y k l p q e = let t = build-told a b (ap (λ (o : Making). o .tree .answer) e) in λ z. (t z, e z .room, e z .tree .index, e z .tree .boxes, e z .tree .links)
+
+pub make-fixed : FixesAll street-make.Post {C = Built × List Float × List ℕ × List Float × List ℕ} (λ κs r e. (r, e .1 .1 .1 .0 .now, e .1 .1 .1 .1 .0 .now, e .1 .1 .1 .1 .1 .0 .now, e .1 .1 .1 .1 .1 .1 .0 .now))
+make-fixed κs x r r' e e' p q = make-same r r' _ _ _ _ _ _ _ _ (p ∙ sym q)
 
 pub share-fixed : Fixes watts-share.Post
 share-fixed = fixed

@@ -6,7 +6,6 @@ use lib.Dec.{eqb}
 use lib.Ieee.{Float}
 use Rattle.aabb.specs.declared.slab.Span.{Span}
 use Rattle.aabb.specs.declared.slab.Span.the-variants.{Passed, Missed}
-use Rattle.triangle.specs.declared.Triangle.{Triangle}
 use Rattle.triangle.specs.declared.Hit.{Hit}
 use Rattle.triangle.specs.declared.Found.{Found}
 use Rattle.triangle.specs.declared.Found.the-variants.{At, Nothing}
@@ -41,11 +40,6 @@ frontNumber h = cond (h .front) 1 0
 -- 2 front or 1 back
 unfoldable pub sideNumber : Hit → ℕ
 sideNumber h = cond (h .front) 2 1
-
--- Rule X6: a triangle: v0, v1, v2, normal
-unfoldable pub triangleNumbers : Triangle → List Float
-triangleNumbers a =
-    a .v0 .x ∷ a .v0 .y ∷ a .v0 .z ∷ a .v1 .x ∷ a .v1 .y ∷ a .v1 .z ∷ a .v2 .x ∷ a .v2 .y ∷ a .v2 .z ∷ a .normal .x ∷ a .normal .y ∷ a .normal .z ∷ []
 
 -- 0, or the refusal number
 unfoldable pub refusalNumber : Refusal → ℕ

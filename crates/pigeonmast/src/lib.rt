@@ -20,7 +20,7 @@ ghost use Rattle.float.specs.Root.{root};
 ghost use Rattle.aabb.specs.Vector.{rayAt, vectorAt};
 ghost use Rattle.aabb.specs.Bounds.{boxAt};
 ghost use Rattle.aabb.specs.Slab.{slab};
-ghost use Rattle.triangle.specs.Mesh.{triangleAt};
+ghost use Rattle.triangle.specs.Mesh.{triangleAt, triangleNumbers};
 ghost use Rattle.triangle.specs.Meeting.{strike};
 ghost use Rattle.triangle.specs.Normal.{newTriangle};
 ghost use Rattle.triangle.specs.Refilled.{refillRefusal, refilled};
@@ -37,7 +37,7 @@ ghost use Rattle.accept.specs.Accept.{ruling, accepted};
 ghost use Rattle.stl.specs.Answers.{told as stlAnswered};
 ghost use Rattle.stl.specs.Reading.{readStl};
 ghost use Rattle.stl.specs.Writing.{writeStl};
-ghost use Rattle.pigeonmast.specs.Report.{abi, hitNumbers, frontNumber, sideNumber, refusalNumber, refusalAt, build, buildTold, buildReport, walk, walked, sky, skyReport, test, slabReport, triangleReport, triangleNumbers, normals, normalsReport, watts, reportNumbers, wattsReport, shareNumbers, accept, acceptTold, acceptReport, stlTold, stlRead, readReport, stlWritten, writeReport};
+ghost use Rattle.pigeonmast.specs.Report.{abi, hitNumbers, frontNumber, sideNumber, refusalNumber, refusalAt, build, buildTold, buildReport, walk, walked, sky, skyReport, test, slabReport, triangleReport, normals, normalsReport, watts, reportNumbers, wattsReport, shareNumbers, accept, acceptTold, acceptReport, stlTold, stlRead, readReport, stlWritten, writeReport};
 
 // A hit's nine numbers: t, point, normal, u, v.
 fn hit_numbers(hit: Hit) -> [f64; 9]

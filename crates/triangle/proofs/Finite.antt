@@ -54,7 +54,7 @@ module _ (i j m k : ℕ) (e : round binary64 false (2 ^ i * 2 ^ j) 1 ≡ power m
       add-most k n g (add binary64 x y) z (add-most m k f x y (mul-most i j m e (a .x) (b .x) (p .0) (q .0)) (mul-most i j m e (a .y) (b .y) (p .1) (q .1)))
       (power-wider m k z h (mul-most i j m e (a .z) (b .z) (p .2) (q .2)))
 
-forty : (v : Vec3) → T (allWithin two-to-40 v) → AllAtMost 40 v
+pub forty : (v : Vec3) → T (allWithin two-to-40 v) → AllAtMost 40 v
 unfolding along
 forty v h = (rw two-to-40-is at (within-along two-to-40 0 v h), rw two-to-40-is at (within-along two-to-40 1 v h), rw two-to-40-is at (within-along two-to-40 2 v h))
 

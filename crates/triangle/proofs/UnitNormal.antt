@@ -74,35 +74,36 @@ unfolding allWithin within le ofBits
 upright = tt
 
 module _ (a : Vec3) (A : AllAtMost 83 a) where
-  dot-below : AtMost 168 (dot a a)
+  pub dot-below : AtMost 168 (dot a a)
   unfolding round le
   dot-below = dot-most 83 83 166 167 refl refl 168 refl tt a a A A
 
-  module _ (long : lt trillionth (dot a a) ≡ true) where
-    dot-positive : T (positive (dot a a))
-    dot-positive = above-positive (dot a a) (power-finite (dot a a) 168 dot-below) (above-of-le trillionth (dot a a) trillionth-positive (lt→le trillionth (dot a a) (true-is (lt trillionth (dot a a)) long)))
-
+  -- divided by its length, where that is above zero
+  module _ (some : T (positive (dot a a))) where
     abbrev fits-two : Float → Bool
     fits-two x = within two (div binary64 x (root (dot a a)))
 
     component-within : (x : Float) → AtMost 83 x → T (le (mul binary64 x x) (dot a a)) → T (fits-two x)
     unfolding within dot
     component-within x X h =
-        by-root-most x (dot a a) (power-finite x 83 X) dot-positive (add-fits binary64 _ _) 168 (omega arith) dot-below h
+        by-root-most x (dot a a) (power-finite x 83 X) some (add-fits binary64 _ _) 168 (omega arith) dot-below h
 
-    long-within : T (allWithin two (divided a (root (dot a a))))
+    pub unit-within : T (allWithin two (divided a (root (dot a a))))
     unfolding allWithin divided
-    long-within =
+    unit-within =
         and-i (fits-two (a .x)) (fits-two (a .y) && fits-two (a .z)) (component-within (a .x) (A .0) (unfold dot in x-below (a .x) (a .y) (a .z) (A .0) (A .1) (A .2)))
         (and-i (fits-two (a .y)) (fits-two (a .z)) (component-within (a .y) (A .1) (unfold dot in y-below (a .x) (a .y) (a .z) (A .0) (A .1) (A .2)))
         (component-within (a .z) (A .2) (unfold dot in z-below (a .x) (a .y) (a .z) (A .0) (A .1) (A .2))))
+
+  long-positive : lt trillionth (dot a a) ≡ true → T (positive (dot a a))
+  long-positive long = above-positive (dot a a) (power-finite (dot a a) 168 dot-below) (above-of-le trillionth (dot a a) trillionth-positive (lt→le trillionth (dot a a) (true-is (lt trillionth (dot a a)) long)))
 
   pub direction-within : T (allWithin two (direction a))
   unfolding direction
   direction-within = go (lt trillionth (dot a a)) refl
     where
       go : (b : Bool) → lt trillionth (dot a a) ≡ b → T (allWithin two (cond b (divided a (root (dot a a))) (vec nought one nought)))
-      go true p = long-within p
+      go true p = unit-within (long-positive p)
       go false p = upright
 
 -- ---- the triangle with these corners

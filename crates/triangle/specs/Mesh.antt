@@ -1,7 +1,7 @@
 -- Triangles, and the mesh that holds them (rules D1, N2, T1, T2). Definitions only.
 use Prim.Native.Nat.{ℕ, zero, suc, _+_, _*_}
 use mathlib.Core.Bool.{Bool, true, false, _&&_}
-use mathlib.Core.List.{List}
+use mathlib.Core.List.{List, [], _∷_}
 use lib.Ieee.{Float}
 use Rattle.lent.specs.Ladder.{Check, check}
 use Rattle.float.specs.Number.{two, three, two-to-40}
@@ -17,6 +17,11 @@ use Rattle.triangle.specs.declared.Unadmitted.the-variants.{At, Nothing}
 -- Rule D1: triangle i of a mesh, twelve numbers each
 unfoldable pub triangleAt : List Float → ℕ → Triangle
 triangleAt mesh i = record { v0 = vectorAt mesh (i * 12); v1 = vectorAt mesh (i * 12 + 3); v2 = vectorAt mesh (i * 12 + 6); normal = vectorAt mesh (i * 12 + 9) }
+
+-- Rule D1: its numbers, in that order
+unfoldable pub triangleNumbers : Triangle → List Float
+triangleNumbers a =
+    a .v0 .x ∷ a .v0 .y ∷ a .v0 .z ∷ a .v1 .x ∷ a .v1 .y ∷ a .v1 .z ∷ a .v2 .x ∷ a .v2 .y ∷ a .v2 .z ∷ a .normal .x ∷ a .normal .y ∷ a .normal .z ∷ []
 
 -- its vertices
 unfoldable pub cornersOf : Triangle → Corners

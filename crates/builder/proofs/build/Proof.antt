@@ -25,9 +25,6 @@ returns-3 : tie.Need-returns-3
 unfolding built reply
 returns-3 c = ends (goes (agree (c .before .before .if1 .left)) (goes (not-below (c .before .if2 .left)) (stops (below (c .if3 .taken)) refl)))
 
-room-requires : tie.Need-room-requires
-room-requires c κs = search needs
-
 returns-4 : tie.Need-returns-4
 unfolding built reply
 returns-4 c =
@@ -98,7 +95,7 @@ build-spec =
     returns
     returns-2
     returns-3
-    room-requires
+    (λ c. search needs) (λ c κs. search needs)
     returns-4
     returns-5
     first-refused-requires

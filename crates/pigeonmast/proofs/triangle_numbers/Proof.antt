@@ -1,6 +1,6 @@
 -- The array is the definition's list. Assumes nothing.
 use mathlib.Core.Path.{refl}
-use Rattle.pigeonmast.specs.Report.{triangleNumbers}
+use Rattle.triangle.specs.Mesh.{triangleNumbers}
 use Rattle.pigeonmast.proofs.triangle_numbers.Statement.{statement}
 use Rattle.pigeonmast.proofs.triangle_numbers.Tie as tie
 

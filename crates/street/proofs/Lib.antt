@@ -1,0 +1,6 @@
+mod Matrices
+mod Searching
+pub mod ProxyRoom
+mod Raising
+pub mod Sizes
+pub mod Topping
