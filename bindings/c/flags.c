@@ -6,11 +6,11 @@
 #include <string.h>
 #include <xmmintrin.h>
 
-enum { TRIANGLES = 40, NODES = 2 * TRIANGLES - 1, RAYS = 64 };
+enum { TRIANGLES = 40, NODES = 2 * TRIANGLES - 1, RAYS = 64, TOLD = 5 };
 
 /* All that a build, a sky and the two tests answer and write. */
 struct answers {
-    uint64_t built[2], at[1], told[4 * RAYS];
+    uint64_t built[2], at[1], told[TOLD * RAYS];
     uint32_t number[4], index[TRIANGLES], links[3 * NODES];
     double boxes[6 * NODES], times[RAYS], span[2], numbers[7];
 };
@@ -26,17 +26,20 @@ static double next(unsigned *seed)
 static void run(struct answers *a)
 {
     static double mesh[12 * TRIANGLES], rays[6 * RAYS];
+    static uint32_t materials[TRIANGLES];
     unsigned seed = 7;
     for (size_t k = 0; k < 12 * TRIANGLES; k++)
         mesh[k] = k % 12 < 9 ? next(&seed) + (double)(k / 12) / 4 : next(&seed);
+    for (size_t k = 0; k < TRIANGLES; k++)
+        materials[k] = 1000 + (uint32_t)k;
     for (size_t k = 0; k < 6 * RAYS; k++)
         rays[k] = k % 6 < 3 ? 8 * next(&seed) : k < 6 || k % 5 == 0 ? 0 : next(&seed);
     memset(a, 0, sizeof *a);
     a->number[0] = pigeonmast_build(mesh, 12 * TRIANGLES, a->index, TRIANGLES, a->boxes, 6 * NODES,
                                     a->links, 3 * NODES, a->built);
-    a->number[1] = pigeonmast_sky(mesh, 12 * TRIANGLES, a->index, TRIANGLES, a->boxes, 6 * a->built[0],
-                                  a->links, 3 * a->built[0], rays, 6 * RAYS, a->times, RAYS,
-                                  a->told, 4 * RAYS, a->at);
+    a->number[1] = pigeonmast_sky(mesh, 12 * TRIANGLES, materials, TRIANGLES, a->index, TRIANGLES,
+                                  a->boxes, 6 * a->built[0], a->links, 3 * a->built[0], rays, 6 * RAYS,
+                                  a->times, RAYS, a->told, TOLD * RAYS, a->at);
     a->number[2] = pigeonmast_slab(a->boxes, rays, a->span);
     a->number[3] = pigeonmast_triangle(mesh, rays, a->numbers);
 }
@@ -68,7 +71,7 @@ int main(void)
 
     holds(memcmp(&clear, &raised, sizeof clear) == 0, "the answers depend on the flags");
     for (size_t k = 0; k < RAYS; k++)
-        hits += clear.told[4 * k] == PIGEONMAST_HIT;
+        hits += clear.told[TOLD * k] == PIGEONMAST_HIT;
     holds(clear.number[0] == 0 && clear.number[1] == 0 && hits > 0, "no ray hits: the runs show nothing");
     return differ;
 }

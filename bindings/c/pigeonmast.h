@@ -20,10 +20,11 @@
  * keeps a pointer, allocates memory or has state of its own; so calls may run
  * side by side on many threads.
  *
- * Triangles are twelve numbers each: v0, v1, v2, normal. A node is six numbers
- * in `boxes` (min x, y, z, max x, y, z) and three in `links` (left child or
- * first entry, count, kind: 1 leaf, 0 internal). A ray is its origin and its
- * direction.
+ * Triangles are twelve numbers each: v0, v1, v2, normal; a walk is lent a
+ * material for each besides, any number, of which only the hit's is told. A node
+ * is six numbers in `boxes` (min x, y, z, max x, y, z) and three in `links` (left
+ * child or first entry, count, kind: 1 leaf, 0 internal). A ray is its origin and
+ * its direction.
  *
  * Admitted: a triangle whose numbers are finite, the vertices' of magnitude at
  * most 2^40 and the normal's at most 2; a ray whose numbers are finite, the
@@ -51,7 +52,7 @@ extern "C" {
 /* The form of these calls: what pigeonmast_abi() answers, where the library is
  * the one that this header was written for. It rises when a call's parameters,
  * or what it writes, change. */
-#define PIGEONMAST_ABI 1
+#define PIGEONMAST_ABI 2
 
 /* The answer of pigeonmast_walk for a hit, and the outcome that pigeonmast_sky
  * tells of one. No refusal has this number. */
@@ -73,7 +74,8 @@ enum pigeonmast_refusal {
     PIGEONMAST_TOO_MANY_PENDING = 11,      /* more than 64; at: the node opened */
     PIGEONMAST_TOO_MANY_BOX_TESTS = 12,    /* more than there are nodes; at: the next node */
     PIGEONMAST_ANSWER_ROOM = 13,           /* times or told too short */
-    PIGEONMAST_RAY_NUMBERS = 14            /* rays not in sixes */
+    PIGEONMAST_RAY_NUMBERS = 14,           /* rays not in sixes */
+    PIGEONMAST_MATERIAL_LIST = 18          /* materials not one for each triangle */
 };
 
 /* The form of the calls that the library has: PIGEONMAST_ABI. */
@@ -95,30 +97,33 @@ uint32_t pigeonmast_build(const double *triangles, size_t triangles_len,
 /* Walks the tree with one ray. Hand over the 2L-1 nodes and n index entries
  * without spare room.
  * Answers PIGEONMAST_HIT with numbers = t, point, normal and told = triangle,
- * front (1 or 0), box tests, triangle tests; 0 for a miss with told = 0, 0, box
- * tests, triangle tests; else the refusal with told = at, 0, 0, 0. numbers stay
- * unchanged unless it is a hit. Of triangles met at numerically equal t the
- * lowest number is the hit.
- * Refused in this order: 1, 2, 7, 8, then step by step. A step takes the last
- * pending node, the root first: 12, 9, the box test. If the ray passes, of a
- * leaf 9 (its range) and for each entry 10, 5, the triangle test; of an
+ * front (1 or 0), box tests, triangle tests, the triangle's material; 0 for a
+ * miss with told = 0, 0, box tests, triangle tests, 0; else the refusal with
+ * told = at, 0, 0, 0, 0. numbers stay unchanged unless it is a hit. Of triangles
+ * met at numerically equal t the lowest number is the hit.
+ * Refused in this order: 1, 2, 18, 7, 8, then step by step. A step takes the
+ * last pending node, the root first: 12, 9, the box test. If the ray passes, of
+ * a leaf 9 (its range) and for each entry 10, 5, the triangle test; of an
  * internal node 9 (its children), 11, then its children are pending, the left
  * one last. */
 uint32_t pigeonmast_walk(const double *triangles, size_t triangles_len,
+                         const uint32_t *materials, size_t materials_len,
                          const uint32_t *index, size_t index_len,
                          const double *boxes, size_t boxes_len,
                          const uint32_t *links, size_t links_len,
                          const double ray[6], double numbers[7],
-                         uint64_t told[4]);
+                         uint64_t told[5]);
 
 /* Walks the tree with every ray of rays (6 numbers each), as pigeonmast_walk
  * would one by one. Answers 0 with at = 0, times = t of each ray's hit, else 0,
- * and told four a ray: outcome (0 for a miss, PIGEONMAST_HIT for a hit, else the
- * refusal), triangle or the refusal's at, box tests, triangle tests. A refused
- * ray does not stop the rest; room beyond the rays stays. Or answers refusal 1,
- * 2, 14 or 13 (in this order) of the whole call, with its at; times and told
- * stay unchanged. Room for one of times and four of told a ray is asked. */
+ * and told five a ray: outcome (0 for a miss, PIGEONMAST_HIT for a hit, else the
+ * refusal), triangle or the refusal's at, box tests, triangle tests, material (0
+ * where it is no hit). A refused ray does not stop the rest; room beyond the rays
+ * stays. Or answers refusal 1, 2, 18, 14 or 13 (in this order) of the whole call,
+ * with its at; times and told stay unchanged. Room for one of times and five of
+ * told a ray is asked. */
 uint32_t pigeonmast_sky(const double *triangles, size_t triangles_len,
+                        const uint32_t *materials, size_t materials_len,
                         const uint32_t *index, size_t index_len,
                         const double *boxes, size_t boxes_len,
                         const uint32_t *links, size_t links_len,

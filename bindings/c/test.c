@@ -26,7 +26,8 @@ int main(void)
     const double rays[12] = {17, 1, 1, 0, 0, -1, 25, 1, 1, 0, 0, -1}; /* P11, P12 */
     double mesh[60] = {0}, boxes[54], numbers[7] = {9}, times[3] = {9, 9, 9};
     uint32_t index[6] = {9, 9, 9, 9, 9, 9}, links[27];
-    uint64_t told[4], places[9] = {9, 9, 9, 9, 9, 9, 9, 9, 9}, at[1] = {9};
+    const uint32_t materials[5] = {30, 31, 32, 33, 34};
+    uint64_t told[5], places[11] = {9, 9, 9, 9, 9, 9, 9, 9, 9, 9, 9}, at[1] = {9};
 
     for (size_t k = 0; k < 5; k++) { /* P10 */
         double *v = mesh + 12 * k, s = 16.0 * (double)k;
@@ -43,25 +44,32 @@ int main(void)
     HOLDS(boxes, 0, 0, 0, 67, 3, 0, 0, 0, 0, 19, 3, 0, 32, 0, 0, 67, 3, 0);
     HOLDS(links, 1, 0, 0, 0, 2, 1, 2, 3, 1);
 
-#define TREE mesh, 60, index, 5, boxes, 18, links, 9
+#define OF(given) mesh, 60, materials, given, index, 5, boxes, 18, links, 9
+#define TREE OF(5)
     ANSWERS(pigeonmast_walk(TREE, mesh + 12, numbers, told), PIGEONMAST_RAY_NOT_ADMITTED); /* a direction of 19 */
-    HOLDS(told, 0, 0, 0, 0);
+    HOLDS(told, 0, 0, 0, 0, 0);
     HOLDS(numbers, 9);
+    ANSWERS(pigeonmast_walk(OF(4), mesh + 12, numbers, told), PIGEONMAST_MATERIAL_LIST); /* before the ray */
+    HOLDS(told, 0, 0, 0, 0, 0);
     ANSWERS(pigeonmast_walk(TREE, rays, numbers, told), PIGEONMAST_HIT);
-    HOLDS(told, 1, 1, 3, 2);
+    HOLDS(told, 1, 1, 3, 2, 31);
     HOLDS(numbers, 1, 17, 1, 0, 0, 0, 1);
+    ANSWERS(pigeonmast_walk(TREE, rays + 6, numbers, told), 0);
+    HOLDS(told, 0, 0, 3, 0, 0);
+    ANSWERS(pigeonmast_sky(OF(4), rays, 11, times, 0, places, 0, at), PIGEONMAST_MATERIAL_LIST);
     ANSWERS(pigeonmast_sky(TREE, rays, 11, times, 0, places, 0, at), PIGEONMAST_RAY_NUMBERS);
-    ANSWERS(pigeonmast_sky(TREE, rays, 12, times, 2, places, 7, at), PIGEONMAST_ANSWER_ROOM);
+    ANSWERS(pigeonmast_sky(TREE, rays, 12, times, 2, places, 9, at), PIGEONMAST_ANSWER_ROOM);
     HOLDS(times, 9, 9, 9);
-    ANSWERS(pigeonmast_sky(TREE, rays, 12, times, 3, places, 9, at), 0);
+    ANSWERS(pigeonmast_sky(TREE, rays, 12, times, 3, places, 11, at), 0);
     HOLDS(at, 0);
     HOLDS(times, 1, 0, 9);
-    HOLDS(places, PIGEONMAST_HIT, 1, 3, 2, 0, 0, 3, 0, 9);
+    HOLDS(places, PIGEONMAST_HIT, 1, 3, 2, 31, 0, 0, 3, 0, 0, 9);
 
-    ANSWERS(pigeonmast_walk(t, 12, index, 1, unit, 6, links + 6, 3, p2, numbers, told), PIGEONMAST_BAD_NODE);
+#define ONE t, 12, materials, 1, index, 1, unit, 6, links + 6, 3
+    ANSWERS(pigeonmast_walk(ONE, p2, numbers, told), PIGEONMAST_BAD_NODE);
     links[6] = 0, links[7] = 1;
-    ANSWERS(pigeonmast_walk(t, 12, index, 1, unit, 6, links + 6, 3, p2, numbers, told), PIGEONMAST_HIT);
-    HOLDS(told, 0, 1, 1, 1);
+    ANSWERS(pigeonmast_walk(ONE, p2, numbers, told), PIGEONMAST_HIT);
+    HOLDS(told, 0, 1, 1, 1, 30);
     HOLDS(numbers, 1, 0.25, 0.25, 0, 0, 0, 1);
     ANSWERS(pigeonmast_triangle(t, p3, numbers), 1);
     HOLDS(numbers, 1, 0.25, 0.25, 0, 0, 0, -1);

@@ -8,6 +8,7 @@ use crate::{raw, Aabb, HitRecord, Ray, Refusal, Triangle};
 #[derive(Clone, Debug, PartialEq)]
 pub struct Bvh {
     triangles: Vec<f64>,
+    materials: Vec<u32>,
     index: Vec<u32>,
     boxes: Vec<f64>,
     links: Vec<u32>,
@@ -57,8 +58,7 @@ pub struct Place {
     pub triangle_tests: u64,
 }
 
-/// What a sky of rays tells of a hit: of [`HitRecord`] the two numbers that a
-/// survey asks for.
+/// What a sky of rays tells of a hit: of [`HitRecord`] what a survey asks for.
 #[derive(Clone, Copy, Debug, PartialEq)]
 #[non_exhaustive]
 pub struct PlaceHit {
@@ -66,15 +66,18 @@ pub struct PlaceHit {
     pub triangle: usize,
     /// The ray's parameter there.
     pub t: f64,
+    /// The triangle's material: what [`Bvh::with_materials`] gave it, else 0.
+    pub material: u32,
 }
 
 impl Place {
-    fn new(t: f64, told: &[u64]) -> Result<Self, Refusal> {
+    fn new(times: &[f64], told: &[u64]) -> Result<Self, Refusal> {
         let hit = match told[0] as u32 {
             0 => None,
             raw::HIT => Some(PlaceHit {
                 triangle: told[1] as usize,
-                t,
+                t: times[0],
+                material: told[4] as u32,
             }),
             number => return Err(Refusal::new(number, told[1])),
         };
@@ -86,7 +89,8 @@ impl Place {
     }
 }
 
-/// Builds the tree of these triangles, which are copied into it once.
+/// Builds the tree of these triangles, which are copied into it once. Their
+/// materials are 0 until [`Bvh::with_materials`] gives others.
 ///
 /// # Errors
 ///
@@ -132,6 +136,7 @@ impl Bvh {
             (2 * n).max(2) - 1
         };
         let mut bvh = Self {
+            materials: vec![0; n.min(MOST_TRIANGLES)],
             index: vec![0; n.min(MOST_TRIANGLES)],
             boxes: vec![0.0; 6 * room],
             links: vec![0; 3 * room],
@@ -156,7 +161,7 @@ impl Bvh {
     }
 
     /// A tree from elsewhere, as lent lists. Nothing is looked at here: a walk
-    /// refuses what it meets.
+    /// refuses what it meets. Materials are 0, as of [`build_bvh`].
     #[must_use]
     pub fn from_lists(
         triangles: Vec<f64>,
@@ -165,11 +170,37 @@ impl Bvh {
         links: Vec<u32>,
     ) -> Self {
         Self {
+            materials: vec![0; triangles.len() / 12],
             triangles,
             index,
             boxes,
             links,
         }
+    }
+
+    /// The same tree, with a material for each triangle, which every hit tells.
+    /// Nothing else of an answer depends on them.
+    ///
+    /// # Errors
+    ///
+    /// [`Refusal::MaterialList`] where they are not as many as the triangles.
+    ///
+    /// ```
+    /// use pigeonmast::{build_bvh, Ray, Refusal, Triangle};
+    /// let at = |z| Triangle::from([0.0, 0.0, z, 3.0, 0.0, z, 0.0, 3.0, z, 0.0, 0.0, 1.0]);
+    /// const TREE: u32 = 5;
+    /// const WALL: u32 = 6;
+    /// let bvh = build_bvh(&[at(0.0), at(2.0)])?.with_materials(vec![WALL, TREE])?;
+    /// let shade = bvh.intersect(&Ray::from([1.0, 1.0, 1.0, 0.0, 0.0, 1.0]))?;
+    /// assert_eq!(shade.hit.map(|hit| hit.material), Some(TREE));
+    /// assert_eq!(bvh.with_materials(vec![WALL]), Err(Refusal::MaterialList));
+    /// # Ok::<(), pigeonmast::Refusal>(())
+    /// ```
+    pub fn with_materials(self, materials: Vec<u32>) -> Result<Self, Refusal> {
+        if materials.len() != self.triangles.len() / 12 {
+            return Err(Refusal::MaterialList);
+        }
+        Ok(Self { materials, ..self })
     }
 
     /// Walks the tree with a ray.
@@ -180,9 +211,10 @@ impl Bvh {
     /// the order of docs/RULES.md, whatever its lists are refused for: 1, 2, 8
     /// and, where the walk comes to it, 12, 9, 10, 5 and 11.
     pub fn intersect(&self, ray: &Ray) -> Result<Walk, Refusal> {
-        let (mut numbers, mut told) = ([0.0; 7], [0; 4]);
+        let (mut numbers, mut told) = ([0.0; raw::HIT_NUMBERS], [0; raw::WALK_TOLD]);
         let number = raw::walk(
             &self.triangles,
+            &self.materials,
             &self.index,
             &self.boxes,
             &self.links,
@@ -192,7 +224,11 @@ impl Bvh {
         );
         let hit = match number {
             0 => None,
-            raw::HIT => Some(HitRecord::new(numbers, told[1] == 1, told[0] as usize)),
+            raw::HIT => Some(HitRecord {
+                triangle: told[0] as usize,
+                material: told[4] as u32,
+                ..HitRecord::new(numbers, told[1] == 1)
+            }),
             _ => return Err(Refusal::new(number, told[0])),
         };
         Ok(Walk {
@@ -224,10 +260,12 @@ impl Bvh {
     /// # Ok::<(), pigeonmast::Refusal>(())
     /// ```
     pub fn sky(&self, rays: &[Ray]) -> Result<Vec<Result<Place, Refusal>>, Refusal> {
-        let (mut times, mut told) = (vec![0.0; rays.len()], vec![0; 4 * rays.len()]);
+        let mut times = vec![0.0; raw::PLACE_TIMES * rays.len()];
+        let mut told = vec![0; raw::PLACE_TOLD * rays.len()];
         let mut at = [0];
         let number = raw::sky(
             &self.triangles,
+            &self.materials,
             &self.index,
             &self.boxes,
             &self.links,
@@ -239,8 +277,9 @@ impl Bvh {
         if number != 0 {
             return Err(Refusal::new(number, at[0]));
         }
-        let places = times.iter().zip(told.chunks_exact(4));
-        Ok(places.map(|(t, told)| Place::new(*t, told)).collect())
+        let places = times.chunks_exact(raw::PLACE_TIMES);
+        let places = places.zip(told.chunks_exact(raw::PLACE_TOLD));
+        Ok(places.map(|(t, told)| Place::new(t, told)).collect())
     }
 
     /// As [`Bvh::sky`], with the rays dealt out to so many threads in parts that
@@ -313,6 +352,12 @@ impl Bvh {
     #[must_use]
     pub fn triangles(&self) -> &[Triangle] {
         Triangle::of_numbers(&self.triangles)
+    }
+
+    /// The triangles' materials, one for each.
+    #[must_use]
+    pub fn materials(&self) -> &[u32] {
+        &self.materials
     }
 
     /// The index list: leaves hold ranges of it, its entries are triangles.

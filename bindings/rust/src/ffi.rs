@@ -19,6 +19,8 @@ extern "C" {
     pub fn pigeonmast_walk(
         triangles: *const f64,
         triangles_len: usize,
+        materials: *const u32,
+        materials_len: usize,
         index: *const u32,
         index_len: usize,
         boxes: *const f64,
@@ -27,12 +29,14 @@ extern "C" {
         links_len: usize,
         ray: *const [f64; 6],
         numbers: *mut [f64; 7],
-        told: *mut [u64; 4],
+        told: *mut [u64; 5],
     ) -> u32;
 
     pub fn pigeonmast_sky(
         triangles: *const f64,
         triangles_len: usize,
+        materials: *const u32,
+        materials_len: usize,
         index: *const u32,
         index_len: usize,
         boxes: *const f64,

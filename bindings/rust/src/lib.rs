@@ -29,6 +29,9 @@
 //!
 //! [`Bvh::sky`] walks many rays in one call, [`Bvh::sky_parallel`] on many threads.
 //!
+//! `material_id` stands not in a [`Triangle`] but beside it: [`Bvh::with_materials`]
+//! gives each triangle one, and every hit tells the material that was struck.
+//!
 //! [`Triangle::new`] works a normal out, [`refill_normals`] those of a whole mesh.
 //!
 //! [`raw`] has the calls of the library as they stand, over lent slices, and says

@@ -17,7 +17,20 @@ use crate::ffi;
 pub const HIT: u32 = 100;
 
 /// The form of the calls that this crate is written for.
-pub const ABI: u32 = 1;
+pub const ABI: u32 = 2;
+
+/// What a hit has: t, point, normal.
+pub const HIT_NUMBERS: usize = 7;
+
+/// What [`walk`] tells: triangle, front, box tests, triangle tests, material.
+pub const WALK_TOLD: usize = 5;
+
+/// What [`sky`] writes to `times` for each ray: t.
+pub const PLACE_TIMES: usize = 1;
+
+/// What [`sky`] tells of each ray: outcome, triangle, box tests, triangle tests,
+/// material.
+pub const PLACE_TOLD: usize = 5;
 
 /// The form of the calls that the library has: [`ABI`], where the two belong
 /// together.
@@ -67,34 +80,44 @@ pub fn build(
     }
 }
 
-/// Walks a tree with one ray (origin, direction).
+/// Walks a tree with one ray (origin, direction); `materials` has one for each
+/// triangle.
 ///
 /// Answers [`HIT`] with `numbers` = t, point, normal and `told` = triangle,
-/// front (1 or 0), box tests, triangle tests; 0 for a miss with `told` = 0, 0,
-/// box tests, triangle tests; else the refusal's number with `told` = at, 0, 0,
-/// 0. `numbers` stay unchanged unless it is a hit.
+/// front (1 or 0), box tests, triangle tests, the triangle's material; 0 for a
+/// miss with `told` = 0, 0, box tests, triangle tests, 0; else the refusal's
+/// number with `told` = at, 0, 0, 0, 0. `numbers` stay unchanged unless it is a
+/// hit.
 ///
 /// ```
-/// let (mut numbers, mut told) = ([0.0; 7], [0; 4]);
+/// use pigeonmast::raw;
+/// let (mut numbers, mut told) = ([0.0; raw::HIT_NUMBERS], [0; raw::WALK_TOLD]);
 /// let ray = [0.0, 0.0, 0.0, 0.0, 0.0, 1.0];
 /// // No nodes at all: refusal 8.
-/// let answer = pigeonmast::raw::walk(&[], &[], &[], &[], &ray, &mut numbers, &mut told);
-/// assert_eq!((answer, told), (8, [0; 4]));
+/// let answer = raw::walk(&[], &[], &[], &[], &[], &ray, &mut numbers, &mut told);
+/// assert_eq!((answer, told), (8, [0; raw::WALK_TOLD]));
+/// // A material, and no triangle: refusal 18, which comes before.
+/// let answer = raw::walk(&[], &[7], &[], &[], &[], &ray, &mut numbers, &mut told);
+/// assert_eq!(answer, 18);
 /// ```
+#[allow(clippy::too_many_arguments)]
 pub fn walk(
     triangles: &[f64],
+    materials: &[u32],
     index: &[u32],
     boxes: &[f64],
     links: &[u32],
     ray: &[f64; 6],
-    numbers: &mut [f64; 7],
-    told: &mut [u64; 4],
+    numbers: &mut [f64; HIT_NUMBERS],
+    told: &mut [u64; WALK_TOLD],
 ) -> u32 {
     // SAFETY: as in `build`.
     unsafe {
         ffi::pigeonmast_walk(
             triangles.as_ptr(),
             triangles.len(),
+            materials.as_ptr(),
+            materials.len(),
             index.as_ptr(),
             index.len(),
             boxes.as_ptr(),
@@ -112,22 +135,28 @@ pub fn walk(
 /// by one.
 ///
 /// Answers 0 with `at` = 0, `times` = t of each ray's hit, else 0, and `told`
-/// four a ray: outcome (0 for a miss, [`HIT`], else the refusal's number),
-/// triangle or the refusal's at, box tests, triangle tests. A refused ray does
-/// not stop the rest; room beyond the rays stays. Or refusal 1, 2, 14 or 13 of
-/// the whole call, with its `at`; `times` and `told` stay unchanged.
+/// five a ray ([`PLACE_TOLD`]): outcome (0 for a miss, [`HIT`], else the refusal's
+/// number), triangle or the refusal's at, box tests, triangle tests, material (0
+/// where it is no hit). A refused ray does not stop the rest; room beyond the rays
+/// stays. Or refusal 1, 2, 18, 14 or 13 of the whole call, with its `at`; `times`
+/// and `told` stay unchanged.
 ///
 /// ```
-/// let (mut times, mut told, mut at) = ([9.0; 2], [9; 8], [9]);
+/// use pigeonmast::raw;
+/// let mut times = [9.0; 2 * raw::PLACE_TIMES];
+/// let (mut told, mut at) = ([9; 2 * raw::PLACE_TOLD], [9]);
 /// // No nodes at all: each ray's place says refusal 8.
-/// let rays = [0.0, 0.0, 0.0, 0.0, 0.0, 1.0];
-/// let answer = pigeonmast::raw::sky(&[], &[], &[], &[], &rays, &mut times, &mut told, &mut at);
-/// assert_eq!((answer, at, times), (0, [0], [0.0, 9.0]));
-/// assert_eq!(told, [8, 0, 0, 0, 9, 9, 9, 9]);
+/// let ray = [0.0, 0.0, 0.0, 0.0, 0.0, 1.0];
+/// let answer = raw::sky(&[], &[], &[], &[], &[], &ray, &mut times, &mut told, &mut at);
+/// assert_eq!((answer, at, told[0]), (0, [0], 8));
+/// assert!(told[1..raw::PLACE_TOLD].iter().all(|x| *x == 0));
+/// assert!(told[raw::PLACE_TOLD..].iter().all(|x| *x == 9));
+/// assert_eq!((times[0], times[raw::PLACE_TIMES]), (0.0, 9.0));
 /// ```
 #[allow(clippy::too_many_arguments)]
 pub fn sky(
     triangles: &[f64],
+    materials: &[u32],
     index: &[u32],
     boxes: &[f64],
     links: &[u32],
@@ -141,6 +170,8 @@ pub fn sky(
         ffi::pigeonmast_sky(
             triangles.as_ptr(),
             triangles.len(),
+            materials.as_ptr(),
+            materials.len(),
             index.as_ptr(),
             index.len(),
             boxes.as_ptr(),
@@ -168,7 +199,7 @@ pub fn slab(bounds: &[f64; 6], ray: &[f64; 6], times: &mut [f64; 2]) -> u32 {
 /// Where a ray meets a triangle: 2 for its front or 1 for its back with
 /// `numbers` = t, point, normal; or 0 with `numbers` unchanged. Answers on every
 /// number.
-pub fn triangle(triangle: &[f64; 12], ray: &[f64; 6], numbers: &mut [f64; 7]) -> u32 {
+pub fn triangle(triangle: &[f64; 12], ray: &[f64; 6], numbers: &mut [f64; HIT_NUMBERS]) -> u32 {
     // SAFETY: three arrays of the lengths that the call is declared with.
     unsafe { ffi::pigeonmast_triangle(triangle, ray, numbers) }
 }

@@ -1,6 +1,8 @@
 use std::error::Error;
 use std::fmt;
 
+use crate::raw;
+
 /// Why a call was refused, or one of its rays: the table of refusals in
 /// docs/RULES.md, by name. More names may come with later calls.
 #[derive(Clone, Copy, Debug, PartialEq, Eq, Hash)]
@@ -59,6 +61,8 @@ pub enum Refusal {
     AnswerRoom,
     /// 14: the rays' numbers do not come in sixes.
     RayNumbers,
+    /// 18: the materials are not one for each triangle.
+    MaterialList,
     /// A number that this crate does not know: the library is newer.
     Unknown {
         /// The number.
@@ -85,6 +89,7 @@ impl Refusal {
             12 => Self::TooManyBoxTests { node: at },
             13 => Self::AnswerRoom,
             14 => Self::RayNumbers,
+            18 => Self::MaterialList,
             _ => Self::Unknown { number, at },
         }
     }
@@ -107,6 +112,7 @@ impl Refusal {
             Self::TooManyBoxTests { .. } => 12,
             Self::AnswerRoom => 13,
             Self::RayNumbers => 14,
+            Self::MaterialList => 18,
             Self::Unknown { number, .. } => *number,
         }
     }
@@ -175,11 +181,17 @@ impl fmt::Display for Refusal {
                 f,
                 "more boxes would be tested than there are nodes, at node {node}; some node is reached twice: build the tree again"
             ),
-            Self::AnswerRoom => f.write_str(
-                "the answer room is too short; lend one number of times and four of told for each ray",
+            Self::AnswerRoom => write!(
+                f,
+                "the answer room is too short; lend {} of times and {} of told for each ray",
+                raw::PLACE_TIMES,
+                raw::PLACE_TOLD
             ),
             Self::RayNumbers => {
                 f.write_str("the rays' numbers do not come in sixes; give origin and direction of each")
+            }
+            Self::MaterialList => {
+                f.write_str("the materials are not as many as the triangles; give one for each")
             }
             Self::Unknown { at, .. } => {
                 write!(f, "at {at}, by a number that this crate does not know; use the crate that came with the library")

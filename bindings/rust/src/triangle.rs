@@ -4,7 +4,8 @@ use std::slice;
 use crate::{raw, Ray, Refusal, Vec3};
 
 /// A triangle with its normal, which is taken as given; [`Triangle::new`] works it
-/// out.
+/// out. Its material stands beside it, in the tree
+/// ([`Bvh::with_materials`](crate::Bvh::with_materials)).
 ///
 /// Admitted for a build: vertices up to 2^40 along each axis, the normal's
 /// numbers up to 2.
@@ -42,17 +43,22 @@ pub struct HitRecord {
     pub is_front_face: bool,
     /// The triangle's number.
     pub triangle: usize,
+    /// The triangle's material: what [`Bvh::with_materials`](crate::Bvh::with_materials)
+    /// gave it, else 0.
+    pub material: u32,
 }
 
 impl HitRecord {
-    pub(crate) fn new(numbers: [f64; 7], is_front_face: bool, triangle: usize) -> Self {
+    /// Of triangle 0, without a material.
+    pub(crate) fn new(numbers: [f64; raw::HIT_NUMBERS], is_front_face: bool) -> Self {
         let [t, px, py, pz, nx, ny, nz] = numbers;
         Self {
             t,
             point: Vec3::new(px, py, pz),
             normal: Vec3::new(nx, ny, nz),
             is_front_face,
-            triangle,
+            triangle: 0,
+            material: 0,
         }
     }
 }
@@ -110,8 +116,8 @@ impl Triangle {
         unsafe { slice::from_raw_parts(numbers.as_ptr().cast(), numbers.len() / 12) }
     }
 
-    /// Where the ray meets this triangle, which the hit calls `number`. It
-    /// answers on every number.
+    /// Where the ray meets this triangle, which the hit calls `number`; its
+    /// material is 0. It answers on every number.
     ///
     /// ```
     /// use pigeonmast::{Ray, Triangle, Vec3};
@@ -122,10 +128,13 @@ impl Triangle {
     /// ```
     #[must_use]
     pub fn intersect(&self, ray: &Ray, number: usize) -> Option<HitRecord> {
-        let mut numbers = [0.0; 7];
+        let mut numbers = [0.0; raw::HIT_NUMBERS];
         match raw::triangle(&self.numbers(), &ray.numbers(), &mut numbers) {
             0 => None,
-            side => Some(HitRecord::new(numbers, side == 2, number)),
+            side => Some(HitRecord {
+                triangle: number,
+                ..HitRecord::new(numbers, side == 2)
+            }),
         }
     }
 }

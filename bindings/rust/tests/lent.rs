@@ -47,4 +47,40 @@ fn a_tree_gives_its_lists() {
     );
     let mesh = Triangle::all_numbers(bvh.triangles()).to_vec();
     assert_eq!(Bvh::from_lists(mesh, lists.0, lists.1, lists.2), bvh);
+    assert_eq!(bvh.materials(), [0; 5]);
+}
+
+#[test]
+fn a_hit_tells_its_triangles_material() {
+    let down = |x| Ray::from([x, 1.0, 1.0, 0.0, 0.0, -1.0]);
+    let rays = [1.0, 17.0, 33.0, 49.0, 65.0, 25.0].map(down);
+    let struck = |bvh: &Bvh| -> Vec<Option<(usize, u32)>> {
+        let one = |ray| bvh.intersect(ray).expect("it is admitted").hit;
+        let singles: Vec<_> = rays.iter().map(one).collect();
+        let singles: Vec<_> = singles
+            .iter()
+            .map(|hit| hit.map(|h| (h.triangle, h.material)))
+            .collect();
+        let places = bvh.sky(&rays).expect("room is there");
+        let places: Vec<_> = places
+            .iter()
+            .map(|place| place.expect("it is admitted").hit)
+            .map(|hit| hit.map(|h| (h.triangle, h.material)))
+            .collect();
+        assert_eq!(places, singles);
+        singles
+    };
+    let bvh = build_bvh(&row()).expect("the row is built");
+    let wanted = |of: [u32; 5]| -> Vec<_> {
+        let hits = of.into_iter().enumerate().map(Some);
+        hits.chain([None]).collect()
+    };
+    assert_eq!(struck(&bvh), wanted([0; 5]));
+    // Not in the order of the index list, which is 0, 1, 3, 4, 2.
+    let given = [50, u32::MAX, 7, 0, 7];
+    let bvh = bvh
+        .with_materials(given.into())
+        .expect("one for each triangle");
+    assert_eq!(bvh.materials(), given);
+    assert_eq!(struck(&bvh), wanted(given));
 }

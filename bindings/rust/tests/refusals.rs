@@ -95,12 +95,22 @@ fn of_foreign_lists() {
     assert_eq!(walk(&[0], &UNIT.repeat(100), &links), Err((11, 0)));
 }
 
-/// One ray over T, and the refusal or what its places hold.
-fn sky(mesh: &[f64], rays: &[f64], times: usize, told: usize) -> (u32, u64, Vec<f64>, Vec<u64>) {
+/// The material of T.
+const OF_T: [u32; 1] = [40];
+
+/// Rays over T, and the refusal or what their places hold.
+fn sky(
+    mesh: &[f64],
+    materials: &[u32],
+    rays: &[f64],
+    times: usize,
+    told: usize,
+) -> (u32, u64, Vec<f64>, Vec<u64>) {
     let (mut times, mut told, mut at) = (vec![9.0; times], vec![9; told], [9]);
     let links = [0, 1, 1];
     let number = raw::sky(
         mesh,
+        materials,
         &[0],
         &UNIT,
         &links,
@@ -116,18 +126,23 @@ fn sky(mesh: &[f64], rays: &[f64], times: usize, told: usize) -> (u32, u64, Vec<
 fn of_a_whole_sky() {
     let ray = down().numbers();
     let kept = |number, at, times, told| (number, at, vec![9.0; times], vec![9; told]);
-    // 1, 2, 14, 13, in this order, and a refused call writes nothing.
-    assert_eq!(sky(&T[..11], &ray[..5], 0, 0), kept(1, 0, 0, 0));
+    // 1, 2, 18, 14, 13, in this order, and a refused call writes nothing.
+    assert_eq!(sky(&T[..11], &[], &ray[..5], 0, 0), kept(1, 0, 0, 0));
     let many = vec![0.0; 12 * 65_537];
-    assert_eq!(sky(&many, &ray[..5], 0, 0), kept(2, 65_537, 0, 0));
-    assert_eq!(sky(&T, &ray[..5], 0, 0), kept(14, 0, 0, 0));
-    assert_eq!(sky(&T, &ray, 0, 4), kept(13, 0, 0, 4));
-    assert_eq!(sky(&T, &ray, 1, 3), kept(13, 0, 1, 3));
+    assert_eq!(sky(&many, &[], &ray[..5], 0, 0), kept(2, 65_537, 0, 0));
+    for few_or_many in [&[][..], &[40, 40]] {
+        assert_eq!(sky(&T, few_or_many, &ray[..5], 0, 0), kept(18, 0, 0, 0));
+        assert_eq!(sky(&T, few_or_many, &ray, 1, 5), kept(18, 0, 1, 5));
+        assert_eq!(sky(&T, few_or_many, &[], 0, 0), kept(18, 0, 0, 0));
+    }
+    assert_eq!(sky(&T, &OF_T, &ray[..5], 0, 0), kept(14, 0, 0, 0));
+    assert_eq!(sky(&T, &OF_T, &ray, 0, 5), kept(13, 0, 0, 5));
+    assert_eq!(sky(&T, &OF_T, &ray, 1, 4), kept(13, 0, 1, 4));
     assert_eq!(
-        sky(&T, &ray, 1, 4),
-        (0, 0, vec![1.0], vec![u64::from(raw::HIT), 0, 1, 1])
+        sky(&T, &OF_T, &ray, 1, 5),
+        (0, 0, vec![1.0], vec![u64::from(raw::HIT), 0, 1, 1, 40])
     );
-    assert_eq!(sky(&T, &[], 0, 0), kept(0, 0, 0, 0));
+    assert_eq!(sky(&T, &OF_T, &[], 0, 0), kept(0, 0, 0, 0));
 }
 
 #[test]
@@ -138,12 +153,14 @@ fn of_a_ray_among_others() {
     rays[2] = 2.0;
     rays[6] = f64::NAN;
     rays[12] = 2.0;
-    let (number, at, times, told) = sky(&T, &rays, 5, 14);
+    let (number, at, times, told) = sky(&T, &OF_T, &rays, 5, 17);
     assert_eq!((number, at, times), (0, 0, vec![2.0, 0.0, 0.0, 9.0, 9.0]));
     let hit = u64::from(raw::HIT);
-    assert_eq!(told, [hit, 0, 1, 1, 7, 0, 0, 0, 0, 0, 1, 0, 9, 9]);
+    let places = [[hit, 0, 1, 1, 40], [7, 0, 0, 0, 0], [0, 0, 1, 0, 0]];
+    assert_eq!(told, [places.as_flattened(), &[9, 9]].concat());
     // The same by the tree's own call, and as the single walks say it.
     let bvh = Bvh::from_numbers(T.to_vec()).expect("T is admitted");
+    let bvh = bvh.with_materials(OF_T.into()).expect("one material");
     let lent: Vec<Ray> = rays
         .chunks_exact(6)
         .map(|r| Ray::new([r[0], r[1], r[2]].into(), [r[3], r[4], r[5]].into()))
@@ -153,8 +170,8 @@ fn of_a_ray_among_others() {
     for (place, ray) in places.iter().zip(&lent) {
         match (place, bvh.intersect(ray)) {
             (Ok(place), Ok(walk)) => {
-                let found = place.hit.map(|h| (h.triangle, h.t));
-                assert_eq!(found, walk.hit.map(|h| (h.triangle, h.t)));
+                let found = place.hit.map(|h| (h.triangle, h.t, h.material));
+                assert_eq!(found, walk.hit.map(|h| (h.triangle, h.t, h.material)));
                 assert_eq!(place.box_tests, walk.box_tests);
                 assert_eq!(place.triangle_tests, walk.triangle_tests);
             }
@@ -179,14 +196,37 @@ fn told_of<T: std::fmt::Debug>(answer: Result<T, Refusal>) -> (u32, u64) {
 
 #[test]
 fn leave_numbers_and_times_alone() {
-    let (mut numbers, mut told, mut times) = ([9.0; 7], [9; 4], [9.0; 2]);
+    const KEPT: [f64; raw::HIT_NUMBERS] = [9.0; raw::HIT_NUMBERS];
+    let (mut numbers, mut times) = (KEPT, [9.0; 2]);
     let away = [2.0, 0.25, 1.0, 0.0, 0.0, -1.0];
-    let number = raw::walk(&T, &[0], &UNIT, &[0, 1, 1], &away, &mut numbers, &mut told);
-    assert_eq!((number, numbers, told), (0, [9.0; 7], [0, 0, 1, 0]));
-    assert_eq!(
-        (raw::triangle(&T, &away, &mut numbers), numbers),
-        (0, [9.0; 7])
-    );
+    let mut walk = |mesh: &[f64], materials: &[u32], ray: &[f64; 6], links: &[u32]| {
+        let mut told = [9; raw::WALK_TOLD];
+        let number = raw::walk(
+            mesh,
+            materials,
+            &[0],
+            &UNIT,
+            links,
+            ray,
+            &mut numbers,
+            &mut told,
+        );
+        assert_eq!(numbers, KEPT);
+        (number, told)
+    };
+    assert_eq!(walk(&T, &OF_T, &away, &[0, 1, 1]), (0, [0, 0, 1, 0, 0]));
+    // 1, 2, 18, 7, 8, in this order.
+    let refused = |number, at| (number, [at, 0, 0, 0, 0]);
+    let bad = [f64::NAN; 6];
+    let many = vec![0.0; 12 * 65_537];
+    assert_eq!(walk(&T[..11], &[], &bad, &[]), refused(1, 0));
+    assert_eq!(walk(&many, &[], &bad, &[]), refused(2, 65_537));
+    assert_eq!(walk(&T, &[], &bad, &[]), refused(18, 0));
+    assert_eq!(walk(&T, &[40, 40], &bad, &[]), refused(18, 0));
+    assert_eq!(walk(&T, &[40, 40], &away, &[0, 1, 1]), refused(18, 0));
+    assert_eq!(walk(&T, &OF_T, &bad, &[]), refused(7, 0));
+    assert_eq!(walk(&T, &OF_T, &away, &[]), refused(8, 0));
+    assert_eq!((raw::triangle(&T, &away, &mut numbers), numbers), (0, KEPT));
     assert_eq!((raw::slab(&UNIT, &away, &mut times), times), (0, [9.0; 2]));
 }
 
@@ -199,4 +239,11 @@ fn say_what_is_wrong_and_what_to_do() {
         "refused 5: triangle 0 has a number that is not admitted; its vertices must be finite and within 2^40, its normal within 2"
     );
     let _: &dyn std::error::Error = &refusal;
+    let bvh = Bvh::from_numbers(T.to_vec()).expect("T is admitted");
+    let refusal = bvh.with_materials(vec![]).unwrap_err();
+    assert_eq!(told(refusal), (18, 0));
+    assert_eq!(
+        refusal.to_string(),
+        "refused 18: the materials are not as many as the triangles; give one for each"
+    );
 }

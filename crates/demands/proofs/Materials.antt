@@ -36,8 +36,9 @@ use Rattle.demands.proofs.NearestHit.{nowhere}
 module _ (s : Lent) (m m′ : List ℕ) (r : Ray) (Q : Told → Told → Type 0) (stop : (k i : ℕ) → Q (refused k i) (refused k i))
     (end : (a : Tally) → Q (over (withMaterials s m .mesh) r a) (over (withMaterials s m′ .mesh) r a)) where
   steps : (left : ℕ) (pending : List ℕ) (a : Tally) → Q (run (withMaterials s m) r left pending a) (run (withMaterials s m′) r left pending a)
-  steps left [] a = rw (none-pending (withMaterials s m) r left a, none-pending (withMaterials s m′) r left a) (end a)
+  steps zero [] a = rw (none-pending (withMaterials s m) r zero a, none-pending (withMaterials s m′) r zero a) (end a)
   steps zero (i ∷ rest) a = rw (none-left (withMaterials s m) r i rest a, none-left (withMaterials s m′) r i rest a) (stop 12 i)
+  steps (suc left) [] a = rw (none-pending (withMaterials s m) r (suc left) a, none-pending (withMaterials s m′) r (suc left) a) (end a)
   steps (suc left) (i ∷ rest) a =
       rw (next-step (withMaterials s m) r left rest i a, next-step (withMaterials s m′) r left rest i a) (go (visit (s .mesh .triangles) (s .tree) r i (length rest) (boxed a)) (steps left))
     where
@@ -89,12 +90,14 @@ its-material s r =
 -- ---- the same of each place of a sky
 place-but : (x : Refusal) (f g : Found) (b c : ℕ) → plainFound f ≡ plainFound g → SamePlaceBut (placed x f b c) (placed x g b c)
 unfolding placed
-place-but (numbered k i) f g b c e = record { outcome = refl; which = refl; t = refl; boxes = refl; triangles = refl }
-place-but none Nothing Nothing b c e = record { outcome = refl; which = refl; t = refl; boxes = refl; triangles = refl }
+place-but (numbered k i) f g b c e = record { outcome = refl; which = refl; t = refl; u = refl; v = refl; boxes = refl; triangles = refl }
+place-but none Nothing Nothing b c e = record { outcome = refl; which = refl; t = refl; u = refl; v = refl; boxes = refl; triangles = refl }
 place-but none (At h) (At g) b c e = record {
   outcome = refl;
   which = ap (λ (f : Found). placed none f b c .which) e;
   t = ap (λ (f : Found). placed none f b c .t) e;
+  u = ap (λ (f : Found). placed none f b c .u) e;
+  v = ap (λ (f : Found). placed none f b c .v) e;
   boxes = refl;
   triangles = refl;
 }

@@ -24,7 +24,9 @@ use Rattle.triangle.specs.declared.Distance.{Distance}
 use Rattle.triangle.specs.declared.Distance.the-variants.{To, None}
 use Rattle.triangle.specs.Mesh.{triangleAt}
 use Rattle.triangle.specs.Meeting.{distance, hitAt, found, strike}
+use Rattle.triangle.specs.Spot.{Inside}
 use Rattle.triangle.proofs.Finite.{strike-finite}
+use Rattle.triangle.proofs.Spot.{spot-inside}
 use Rattle.walk.specs.declared.tally.Nearest.{Nearest}
 use Rattle.walk.specs.declared.tally.Nearest.the-variants.{Unmet, Met}
 use Rattle.tree.specs.Lent.{Mesh, Lent, Labelled, materialOf}
@@ -255,6 +257,11 @@ in-index s r (internal b u v) i H = all-append _ (reached r u) (reached r v) (in
 pub all-finite : (s : Lent) (r : Ray) → T (admittedRay r) → (ps : List ℕ) → Every (Admitted s) ps → Every (Finite s r) ps
 all-finite s r R ps a = all-map (λ p h g e. let k = getD (s .tree .index) p 0 in strike-finite r (triangleAt (s .mesh .triangles) k) R h k (materialOf (s .mesh) k) g e) ps a
 
+some-holds : {P Q : ℕ → Type 0} {B : Type 0} → ((p : ℕ) → P p → Q p → B) → (ps : List ℕ) → Some P ps → Every Q ps → B
+some-holds f [] h a = absurd h
+some-holds f (p ∷ ps) (inl h) a = f p h (a .0)
+some-holds f (p ∷ ps) (inr h) a = some-holds f ps h (a .1)
+
 -- ---- the theorems, of an accepted tree
 module _ (s : Lent) (t : Tree) (r : Ray) (A : Walkable s t) (M : Labelled (s .mesh)) (R : T (admittedRay r)) where
   pub reached-admitted : Every (Admitted s) (reached r t)
@@ -270,6 +277,12 @@ module _ (s : Lent) (t : Tree) (r : Ray) (A : Walkable s t) (M : Labelled (s .me
   -- the hit is the nearest of those at the places that are reached, the lowest triangle number winning a tie
   pub walk-nearest : (h : Hit) → walk s r .hit ≡ At h → NearestAt s r (reached r t) h
   walk-nearest h e = nearest-at s r (reached r t) reached-finite h (sym walk-hit ∙ e)
+
+  -- and it lies inside its triangle, as u and v are rounded (rule T8)
+  pub walk-inside : (h : Hit) → walk s r .hit ≡ At h → Inside h
+  walk-inside h e =
+      let f : (p : ℕ) → finds s r p ≡ At h → Admitted s p → Inside h = λ p i A. let k = getD (s .tree .index) p 0 in spot-inside r (triangleAt (s .mesh .triangles) k) R A k (materialOf (s .mesh) k) h i in
+      some-holds f (reached r t) (walk-nearest h e .found) reached-admitted
 
   -- where there is none, nothing is found at any of them
   pub walk-clear : walk s r .hit ≡ Nothing → Every (NothingAt s r) (reached r t)

@@ -115,20 +115,22 @@ vector-is : (a b : Vec3) → T (sameVector a b) → a ≡ b
 vector-is a b h = congruent3 vec (float-is (a .x) (b .x) (search (and-l, and-r))) (float-is (a .y) (b .y) (search (and-l, and-r))) (float-is (a .z) (b .z) (search (and-l, and-r)))
 
 abbrev sameHit : Hit → Hit → Bool
-sameHit a b = sameFloat (a .t) (b .t) && (sameVector (a .point) (b .point) && (sameVector (a .normal) (b .normal) && (Bool·beq (a .front) (b .front) && (eqb (a .triangle) (b .triangle) && eqb (a .material) (b .material)))))
+sameHit a b = sameFloat (a .t) (b .t) && (sameVector (a .point) (b .point) && (sameVector (a .normal) (b .normal) && (sameFloat (a .u) (b .u) && (sameFloat (a .v) (b .v) && (Bool·beq (a .front) (b .front) && (eqb (a .triangle) (b .triangle) && eqb (a .material) (b .material)))))))
 
 hit-is : (a b : Hit) → T (sameHit a b) → a ≡ b
 hit-is a b h =
-    let p = float-is (a .t) (b .t) (search (and-l, and-r)) in
-    let q = vector-is (a .point) (b .point) (search (and-l, and-r)) in
-    let r = vector-is (a .normal) (b .normal) (search (and-l, and-r)) in
-    let s = bool-is (a .front) (b .front) (search (and-l, and-r)) in
-    let k = eqb→eq (a .triangle) (b .triangle) (search (and-l, and-r)) in
-    let m = eqb→eq (a .material) (b .material) (search (and-l, and-r)) in
-    all p q r s k m
+    let p = float-is (a .t) (b .t) (search (and-l, and-r) depth 10) in
+    let q = vector-is (a .point) (b .point) (search (and-l, and-r) depth 10) in
+    let r = vector-is (a .normal) (b .normal) (search (and-l, and-r) depth 10) in
+    let x = float-is (a .u) (b .u) (search (and-l, and-r) depth 10) in
+    let y = float-is (a .v) (b .v) (search (and-l, and-r) depth 10) in
+    let s = bool-is (a .front) (b .front) (search (and-l, and-r) depth 10) in
+    let k = eqb→eq (a .triangle) (b .triangle) (search (and-l, and-r) depth 10) in
+    let m = eqb→eq (a .material) (b .material) (search (and-l, and-r) depth 10) in
+    all p q r x y s k m
   where
-    all : {t t' : Float} {p p' n n' : Vec3} {f f' : Bool} {k k' m m' : ℕ} → t ≡ t' → p ≡ p' → n ≡ n' → f ≡ f' → k ≡ k' → m ≡ m' → hit t p n f k m ≡ hit t' p' n' f' k' m'
-    all a b c d e f = rw (a, b, c, d, e, f)
+    all : {t t' u u' v v' : Float} {p p' n n' : Vec3} {f f' : Bool} {k k' m m' : ℕ} → t ≡ t' → p ≡ p' → n ≡ n' → u ≡ u' → v ≡ v' → f ≡ f' → k ≡ k' → m ≡ m' → hit t p n u v f k m ≡ hit t' p' n' u' v' f' k' m'
+    all a b c d e f g h = rw (a, b, c, d, e, f, g, h)
 
 abbrev sameFound : Found → Found → Bool
 sameFound Nothing Nothing = true

@@ -28,11 +28,11 @@ use Rattle.demands.specs.Sky.{Demand3At, SignedSky}
 use Rattle.demands.proofs.Demand.{labelled, built-walk}
 
 -- ---- what a place tells of a walk that is served
-hit-place : (a : Told) (h : Hit) → a .refusal ≡ none → a .hit ≡ At h → placeOf a ≡ record { outcome = 100; which = h .triangle; t = h .t; boxes = a .boxes; triangles = a .triangles; material = h .material }
+hit-place : (a : Told) (h : Hit) → a .refusal ≡ none → a .hit ≡ At h → placeOf a ≡ record { outcome = 100; which = h .triangle; t = h .t; u = h .u; v = h .v; boxes = a .boxes; triangles = a .triangles; material = h .material }
 unfolding placeOf placed
 hit-place a h e f = rw (e, f)
 
-miss-place : (a : Told) → a .refusal ≡ none → a .hit ≡ Nothing → placeOf a ≡ record { outcome = 0; which = 0; t = nought; boxes = a .boxes; triangles = a .triangles; material = 0 }
+miss-place : (a : Told) → a .refusal ≡ none → a .hit ≡ Nothing → placeOf a ≡ record { outcome = 0; which = 0; t = nought; u = nought; v = nought; boxes = a .boxes; triangles = a .triangles; material = 0 }
 unfolding placeOf placed
 miss-place a e f = rw (e, f)
 
@@ -49,7 +49,7 @@ module _ (s : Lent) (t : Tree) (r : Ray) (D : Demand3 s t r) where
         triangle-tests = tests ∙ D .triangle-tests;
         most-boxes = omega (arith, boxes, D .most-boxes);
         most-triangles = omega (arith, tests, D .most-triangles);
-        hit = λ o. record { hit = h; triangle = ap (λ (p : Place). p .which) q; t-is = ap (λ (p : Place). p .t) q; material = ap (λ (p : Place). p .material) q; nearest = D .hit h e };
+        hit = λ o. record { hit = h; triangle = ap (λ (p : Place). p .which) q; t-is = ap (λ (p : Place). p .t) q; u-is = ap (λ (p : Place). p .u) q; v-is = ap (λ (p : Place). p .v) q; material = ap (λ (p : Place). p .material) q; nearest = D .hit h e };
         no-hit = λ o. absurd (omega (arith, out, o));
       }
   by-hit Nothing e =
@@ -76,7 +76,7 @@ module _ (mesh : List Float) (materials index : List ℕ) (boxes : List Float) (
   s = handed mesh materials (built mesh index boxes links)
 
   -- Rule G4: an unchanged built tree over its own triangles, a material for each, rays in sixes, answer room that suffices, and each ray that is admitted, whatever the others are.
-  pub built-sky : built mesh index boxes links .answer ≡ servedReply nodes leaf-count → length materials ≡ triangleCount mesh → length rays % 6 ≡ 0 → rayCount rays ≤ length times → rayCount rays * 5 ≤ length told
+  pub built-sky : built mesh index boxes links .answer ≡ servedReply nodes leaf-count → length materials ≡ triangleCount mesh → length rays % 6 ≡ 0 → rayCount rays * 3 ≤ length times → rayCount rays * 5 ≤ length told
       → SignedSky s nodes leaf-count rays (sky s rays times told)
   built-sky e named sixes timed roomy =
       let w = built-walk mesh materials index boxes links nodes leaf-count e named in

@@ -18,7 +18,7 @@ withMaterials s materials = record { mesh = meshOf (s .mesh .triangles) material
 
 -- a hit of whatever material
 abbrev pub plain : Hit → Hit
-plain h = record { t = h .t; point = h .point; normal = h .normal; front = h .front; triangle = h .triangle; material = 0 }
+plain h = record { t = h .t; point = h .point; normal = h .normal; u = h .u; v = h .v; front = h .front; triangle = h .triangle; material = 0 }
 
 abbrev pub plainFound : Found → Found
 plainFound Nothing = Nothing
@@ -36,5 +36,7 @@ pub record SamePlaceBut (p q : Place) : Type 0 where
   pub outcome : p .outcome ≡ q .outcome
   pub which : p .which ≡ q .which
   pub t : p .t ≡ q .t
+  pub u : p .u ≡ q .u
+  pub v : p .v ≡ q .v
   pub boxes : p .boxes ≡ q .boxes
   pub triangles : p .triangles ≡ q .triangles

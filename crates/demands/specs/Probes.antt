@@ -88,8 +88,8 @@ down x y z = ray (vec x y z) (vec (int 0) (int 0) (minus 1))
 abbrev missed : ℕ → ℕ → Told
 missed b c = record { refusal = none; hit = Nothing; boxes = b; triangles = c }
 
-abbrev struck : Float → Vec3 → Vec3 → Bool → ℕ → ℕ → ℕ → ℕ → Told
-struck t point normal front k m b c = record { refusal = none; hit = At (record { t = t; point = point; normal = normal; front = front; triangle = k; material = m }); boxes = b; triangles = c }
+abbrev struck : Float → Vec3 → Vec3 → Float → Float → Bool → ℕ → ℕ → ℕ → ℕ → Told
+struck t point normal u v front k m b c = record { refusal = none; hit = At (record { t = t; point = point; normal = normal; u = u; v = v; front = front; triangle = k; material = m }); boxes = b; triangles = c }
 
 -- the triangle T: right-angled, its legs of 1 along x and y
 abbrev up : Vec3
@@ -109,6 +109,10 @@ infinite = inf false ∷ inf false ∷ inf false ∷ inf true ∷ inf true ∷ i
 
 abbrev unit : Aabb
 unit = box (vec (int 0) (int 0) (int 0)) (vec (int 1) (int 1) (int 1))
+
+-- a third, as three times the ninth is rounded
+abbrev third : Float
+third = over 6004799503160661 54
 
 -- its material
 abbrev wall : List ℕ
@@ -136,18 +140,18 @@ probes =
     walked [] [] (down quarter quarter (int 1)) (missed 1 0) ∷
     -- P2: T from above is met at 1, from the front, after one test of each kind
     grown T (outcome (servedReply 1 1) (0 ∷ []) flat (0 ∷ 1 ∷ 1 ∷ [])) ∷
-    walked T wall (down quarter quarter (int 1)) (struck (int 1) (vec quarter quarter (int 0)) up true 0 70 1 1) ∷
+    walked T wall (down quarter quarter (int 1)) (struck (int 1) (vec quarter quarter (int 0)) up quarter quarter true 0 70 1 1) ∷
     -- P3: and from below, from the back, the normal turned round
-    walked T wall (ray (vec quarter quarter (minus 1)) up) (struck (int 1) (vec quarter quarter (int 0)) (vec (minus 0) (minus 0) (minus 1)) false 0 70 1 1) ∷
+    walked T wall (ray (vec quarter quarter (minus 1)) up) (struck (int 1) (vec quarter quarter (int 0)) (vec (minus 0) (minus 0) (minus 1)) quarter quarter false 0 70 1 1) ∷
     -- P4: inside T's box, but beyond its long side: both tests are made, the second misses
     walked T wall (down (over 3 2) (over 3 2) (int 1)) (missed 1 1) ∷
     -- P5: beside T's box: no triangle test
     walked T wall (down (times 1 1) quarter (int 1)) (missed 1 0) ∷
     -- P6: just on T's long side, u + v being 1, is a hit
-    walked T wall (down (over 1 1) (over 1 1) (int 1)) (struck (int 1) (vec (over 1 1) (over 1 1) (int 0)) up true 0 70 1 1) ∷
+    walked T wall (down (over 1 1) (over 1 1) (int 1)) (struck (int 1) (vec (over 1 1) (over 1 1) (int 0)) up (over 1 1) (over 1 1) true 0 70 1 1) ∷
     -- P7: from 2^-20 above T it is too near, from 2^-19 it is not
     walked T wall (down quarter quarter (over 1 20)) (missed 1 1) ∷
-    walked T wall (down quarter quarter (over 1 19)) (struck (over 1 19) (vec quarter quarter (int 0)) up true 0 70 1 1) ∷
+    walked T wall (down quarter quarter (over 1 19)) (struck (over 1 19) (vec quarter quarter (int 0)) up quarter quarter true 0 70 1 1) ∷
     -- P8: above the unit cube, a direction of length 2^-40 is flat on all axes, and one of 2^-39 is not
     slabbed (ray (vec (over 1 1) (over 1 1) (times 1 1)) (vec (int 0) (int 0) (fin true 1 (negsuc 39)))) unit Missed ∷
     slabbed (ray (vec (over 1 1) (over 1 1) (times 1 1)) (vec (int 0) (int 0) (fin true 1 (negsuc 38)))) unit (Passed (times 1 39) (times 1 40)) ∷
@@ -159,7 +163,7 @@ probes =
     (outcome (servedReply 3 2) (0 ∷ 1 ∷ 3 ∷ 4 ∷ 2 ∷ []) (along-x (int 0) (int 67) ++ along-x (int 0) (int 19) ++ along-x (times 1 5) (int 67) ++ replicate 36 (int 0))
     (1 ∷ 0 ∷ 0 ∷ 0 ∷ 2 ∷ 1 ∷ 2 ∷ 3 ∷ 1 ∷ replicate 18 0)) ∷
     -- P11: down on the second of the row: three box tests, and the left leaf's two triangles
-    walked five kinds (down (int 17) (int 1) (int 1)) (struck (int 1) (vec (int 17) (int 1) (int 0)) up true 1 81 3 2) ∷
+    walked five kinds (down (int 17) (int 1) (int 1)) (struck (int 1) (vec (int 17) (int 1) (int 0)) up third third true 1 81 3 2) ∷
     -- P12: down between the leaves' boxes: three box tests, no triangle test
     walked five kinds (down (int 25) (int 1) (int 1)) (missed 3 0) ∷
     []

@@ -19,11 +19,13 @@ use Rattle.demands.specs.NearestHit.{NearestAt, NothingAt}
 use Rattle.sky.specs.Sky.{rayCount, placeAt, Filling}
 use Rattle.demands.specs.Demand.{Signed}
 
--- the place tells the triangle, t and the material of the nearest
+-- the place tells the triangle, t, u, v and the material of the nearest
 pub record TellsNearest (s : Lent) (t : Tree) (r : Ray) (p : Place) : Type 0 where
   pub hit : Hit
   pub triangle : p .which ≡ hit .triangle
   pub t-is : p .t ≡ hit .t
+  pub u-is : p .u ≡ hit .u
+  pub v-is : p .v ≡ hit .v
   pub material : p .material ≡ hit .material
   pub nearest : NearestAt s r (reached r t) hit
 

@@ -18,13 +18,13 @@ use Rattle.sky.specs.Sky.{Filling}
 -- ---- pigeonmast_abi (rule X5)
 -- the number of the calls' form, PIGEONMAST_ABI of the C header
 abbrev pub abi : ℕ
-abi = 2
+abi = 3
 
 -- ---- what passes as numbers
--- numbers = t, point, normal
+-- numbers = t, point, normal, u, v
 unfoldable pub hitNumbers : Hit → List Float
 hitNumbers h =
-    h .t ∷ h .point .x ∷ h .point .y ∷ h .point .z ∷ h .normal .x ∷ h .normal .y ∷ h .normal .z ∷ []
+    h .t ∷ h .point .x ∷ h .point .y ∷ h .point .z ∷ h .normal .x ∷ h .normal .y ∷ h .normal .z ∷ h .u ∷ h .v ∷ []
 
 -- front (1 or 0)
 unfoldable pub frontNumber : Hit → ℕ
@@ -77,7 +77,7 @@ pub record Walk : Type 0 where
 abbrev pub walk : ℕ → List Float → List ℕ → Walk
 walk answer numbers told = record { answer = answer; numbers = numbers; told = told }
 
--- 100 for a hit: numbers = t, point, normal; told = triangle, front (1 or 0), box tests, triangle tests, material. 0 for a miss: told = 0, 0, box
+-- 100 for a hit: numbers = t, point, normal, u, v; told = triangle, front (1 or 0), box tests, triangle tests, material. 0 for a miss: told = 0, 0, box
 -- tests, triangle tests, 0. Else the refusal number: told = at, 0, 0, 0, 0. numbers stay unchanged unless it is a hit
 unfoldable pub walkReport : Refusal → Found → ℕ → ℕ → List Float → Walk
 walkReport none (At h) boxes triangles numbers = walk 100 (hitNumbers h) (h .triangle ∷ frontNumber h ∷ boxes ∷ triangles ∷ h .material ∷ [])
@@ -116,7 +116,7 @@ unfoldable pub slabReport : Span → List Float → Test
 slabReport (Passed enter exit) times = test 1 (enter ∷ exit ∷ [])
 slabReport Missed times = test 0 times
 
--- 2 front or 1 back with numbers = t, point, normal; or 0 and numbers unchanged
+-- 2 front or 1 back with numbers = t, point, normal, u, v; or 0 and numbers unchanged
 unfoldable pub triangleReport : Found → List Float → Test
 triangleReport (At h) numbers = test (sideNumber h) (hitNumbers h)
 triangleReport Nothing numbers = test 0 numbers

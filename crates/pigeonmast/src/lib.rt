@@ -30,8 +30,8 @@ ghost use Rattle.walk.specs.Walk as scene;
 ghost use Rattle.sky.specs.Sky.{skyRefusal, sky as filled};
 ghost use Rattle.pigeonmast.specs.Report.{abi, hitNumbers, frontNumber, sideNumber, refusalNumber, refusalAt, build, buildTold, buildReport, walk, walked, sky, skyReport, test, slabReport, triangleReport, normals, normalsReport};
 
-// A hit's seven numbers: t, point, normal.
-fn hit_numbers(hit: Hit) -> [f64; 7]
+// A hit's nine numbers: t, point, normal, u, v.
+fn hit_numbers(hit: Hit) -> [f64; 9]
     ensures { λ r. ⌜ r ≡ hitNumbers hit ⌝ }
 {
     [
@@ -42,6 +42,8 @@ fn hit_numbers(hit: Hit) -> [f64; 7]
         hit.normal.x,
         hit.normal.y,
         hit.normal.z,
+        hit.u,
+        hit.v,
     ]
 }
 
@@ -77,7 +79,7 @@ fn tell_build(answer: Built, told: &mut [u64; 2]) -> u32
 }
 
 // What a walk answered: the number, with `told` written, and `numbers` where it is a hit.
-fn tell_walk(answer: Answer, numbers: &mut [f64; 7], told: &mut [u64; 5]) -> u32
+fn tell_walk(answer: Answer, numbers: &mut [f64; 9], told: &mut [u64; 5]) -> u32
     ensures { λ r. ⌜ walk r (now (numbers .exit)) (now (told .exit)) ≡ walked (answered answer) (now (numbers .entry)) ⌝ }
 {
     match answer {
@@ -138,7 +140,7 @@ fn tell_slab(span: Span, times: &mut [f64; 2]) -> u32
 }
 
 // What a triangle test answered: 2 front or 1 back with `numbers` written, or 0.
-fn tell_triangle(found: Found, numbers: &mut [f64; 7]) -> u32
+fn tell_triangle(found: Found, numbers: &mut [f64; 9]) -> u32
     ensures { λ r. ⌜ test r (now (numbers .exit)) ≡ triangleReport found (now (numbers .entry)) ⌝ }
 {
     match found {
@@ -156,7 +158,7 @@ fn tell_triangle(found: Found, numbers: &mut [f64; 7]) -> u32
 pub extern "C" fn pigeonmast_abi() -> u32
     ensures { λ r. ⌜ r ≡ abi ⌝ }
 {
-    2
+    3
 }
 
 // A triangle's twelve numbers: v0, v1, v2, normal.
@@ -212,7 +214,7 @@ pub extern "C" fn pigeonmast_build(
     tell_build(answer, told)
 }
 
-// Walks the ray (origin, direction) through the tree; `materials` has one for each triangle. 100 for a hit: numbers = t, point, normal; told =
+// Walks the ray (origin, direction) through the tree; `materials` has one for each triangle. 100 for a hit: numbers = t, point, normal, u, v; told =
 // triangle, front (1 or 0), box tests, triangle tests, the triangle's material. 0 for a miss: told = 0, 0, box tests, triangle tests, 0. Else the
 // refusal number of `walk::walk`: told = at, 0, 0, 0, 0. numbers stay unchanged unless it is a hit.
 #[no_mangle]
@@ -223,7 +225,7 @@ pub extern "C" fn pigeonmast_walk(
     boxes: &[f64],
     links: &[u32],
     ray: &[f64; 6],
-    numbers: &mut [f64; 7],
+    numbers: &mut [f64; 9],
     told: &mut [u64; 5],
 ) -> u32
     ensures { λ r. ⌜ walk r (now (numbers .exit)) (now (told .exit)) ≡ walked (scene.walk (lent (now (triangles .entry)) (now (materials .entry)) (now (index .entry)) (now (boxes .entry)) (now (links .entry))) (rayAt (now (ray .entry)) 0)) (now (numbers .entry)) ⌝ }
@@ -232,7 +234,7 @@ pub extern "C" fn pigeonmast_walk(
     tell_walk(answer, numbers, told)
 }
 
-// Walks every ray of `rays` (six numbers each: origin, direction) through the tree. 0 and at = 0: times has t of each ray's hit, else 0, and told
+// Walks every ray of `rays` (six numbers each: origin, direction) through the tree. 0 and at = 0: times has three numbers a ray: t, u, v of its hit, else 0, and told
 // five numbers a ray: outcome (0 a miss, 100 a hit, or a refusal), the triangle's number or the refusal's at, box tests, triangle tests, material,
 // 0 where none applies; room beyond the rays stays. Or refusal 1, 2, 18, 14 or 13 of the whole call (`sky::sky`) with its at; times and told stay
 // unchanged.
@@ -263,13 +265,13 @@ pub extern "C" fn pigeonmast_slab(bounds: &[f64; 6], ray: &[f64; 6], times: &mut
     tell_slab(span, times)
 }
 
-// The test of a triangle (v0, v1, v2, normal) and a ray (origin, direction). 2 front or 1 back with numbers = t, point, normal; or 0 and
-// numbers unchanged.
+// The test of a triangle (v0, v1, v2, normal) and a ray (origin, direction). 2 front or 1 back with numbers = t, point, normal, u, v; or 0
+// and numbers unchanged.
 #[no_mangle]
 pub extern "C" fn pigeonmast_triangle(
     triangle: &[f64; 12],
     ray: &[f64; 6],
-    numbers: &mut [f64; 7],
+    numbers: &mut [f64; 9],
 ) -> u32
     ensures { λ r. ⌜ test r (now (numbers .exit)) ≡ triangleReport (strike (rayAt (now (ray .entry)) 0) (triangleAt (now (triangle .entry)) 0) 0 0) (now (numbers .entry)) ⌝ }
 {

@@ -92,7 +92,7 @@ fn in_room(fd: i32, kind: u32, lengths: &[u32; 4], score: Score) -> Score {
     )
 }
 
-// The triangles come first in each; in a walk and a sky the tree comes next.
+// The triangles come first in each; in a walk and a sky the materials and the tree come next.
 fn in_lists(
     fd: i32,
     kind: u32,
@@ -108,28 +108,69 @@ fn in_lists(
     if kind == 1 {
         return score.with(build(fd, triangles, index, boxes, links));
     }
-    in_tree(fd, kind, triangles, index, boxes, links, score)
+    let Word::Read(materials) = input::read_word(fd) else {
+        return score.with(Check::Cut);
+    };
+    with_materials(fd, kind, triangles, materials, index, boxes, links, score)
+}
+
+// So many materials.
+fn with_materials(
+    fd: i32,
+    kind: u32,
+    triangles: &[f64],
+    count: u32,
+    index: &mut [u32],
+    boxes: &mut [f64],
+    links: &mut [u32],
+    score: Score,
+) -> Score {
+    let m = size(count);
+    if 128 < m {
+        return score.with(Check::Large);
+    }
+    let mut materials = [0u32; 128];
+    in_tree(
+        fd,
+        kind,
+        triangles,
+        &mut materials[0..m],
+        index,
+        boxes,
+        links,
+        score,
+    )
 }
 
 fn in_tree(
     fd: i32,
     kind: u32,
     triangles: &[f64],
+    materials: &mut [u32],
     index: &mut [u32],
     boxes: &mut [f64],
     links: &mut [u32],
     score: Score,
 ) -> Score {
-    if !fill_tree(fd, index, boxes, links) {
+    if !fill_tree(fd, materials, index, boxes, links) {
         return score.with(Check::Cut);
     }
     if kind == 5 {
-        return score.with(sky(fd, triangles, index, boxes, links));
+        return score.with(sky(fd, triangles, materials, index, boxes, links));
     }
-    walk(fd, triangles, index, boxes, links, score)
+    walk(fd, triangles, materials, index, boxes, links, score)
 }
 
-fn fill_tree(fd: i32, index: &mut [u32], boxes: &mut [f64], links: &mut [u32]) -> bool {
+fn fill_tree(
+    fd: i32,
+    materials: &mut [u32],
+    index: &mut [u32],
+    boxes: &mut [f64],
+    links: &mut [u32],
+) -> bool {
+    if !input::fill_words(fd, materials) {
+        return false;
+    }
     if !input::fill_words(fd, index) {
         return false;
     }
@@ -176,6 +217,7 @@ fn build_answer(
 fn walk(
     fd: i32,
     triangles: &[f64],
+    materials: &[u32],
     index: &[u32],
     boxes: &[f64],
     links: &[u32],
@@ -187,12 +229,13 @@ fn walk(
     if 8 < rays {
         return score.with(Check::Large);
     }
-    walk_rays(fd, triangles, index, boxes, links, rays, score)
+    walk_rays(fd, triangles, materials, index, boxes, links, rays, score)
 }
 
 fn walk_rays(
     fd: i32,
     triangles: &[f64],
+    materials: &[u32],
     index: &[u32],
     boxes: &[f64],
     links: &[u32],
@@ -202,7 +245,7 @@ fn walk_rays(
     let mut score = start;
     let mut left = rays;
     while 0 < left {
-        score = score.with(walk_ray(fd, triangles, index, boxes, links));
+        score = score.with(walk_ray(fd, triangles, materials, index, boxes, links));
         if score.is_faulty() {
             return score;
         }
@@ -211,16 +254,24 @@ fn walk_rays(
     score
 }
 
-fn walk_ray(fd: i32, triangles: &[f64], index: &[u32], boxes: &[f64], links: &[u32]) -> Check {
+fn walk_ray(
+    fd: i32,
+    triangles: &[f64],
+    materials: &[u32],
+    index: &[u32],
+    boxes: &[f64],
+    links: &[u32],
+) -> Check {
     let mut ray = [0.0; 6];
     if !input::fill_numbers(fd, &mut ray) {
         return Check::Cut;
     }
     let mut numbers = [0.0; 7];
     room::numbers(&mut numbers);
-    let mut told = [0; 4];
+    let mut told = [0; 5];
     let answer = pigeonmast::pigeonmast_walk(
         triangles,
+        materials,
         index,
         boxes,
         links,
@@ -234,17 +285,25 @@ fn walk_ray(fd: i32, triangles: &[f64], index: &[u32], boxes: &[f64], links: &[u
 }
 
 // A sky: the lengths of its rays and of its answer room (times, told), then the call in as much room.
-fn sky(fd: i32, triangles: &[f64], index: &[u32], boxes: &[f64], links: &[u32]) -> Check {
+fn sky(
+    fd: i32,
+    triangles: &[f64],
+    materials: &[u32],
+    index: &[u32],
+    boxes: &[f64],
+    links: &[u32],
+) -> Check {
     let mut lengths = [0; 3];
     if !input::fill_words(fd, &mut lengths) {
         return Check::Cut;
     }
-    sky_room(fd, triangles, index, boxes, links, &lengths)
+    sky_room(fd, triangles, materials, index, boxes, links, &lengths)
 }
 
 fn sky_room(
     fd: i32,
     triangles: &[f64],
+    materials: &[u32],
     index: &[u32],
     boxes: &[f64],
     links: &[u32],
@@ -256,18 +315,19 @@ fn sky_room(
     if 128 < r {
         return Check::Large;
     }
-    if 32 < t {
+    if 64 < t {
         return Check::Large;
     }
     if 128 < o {
         return Check::Large;
     }
     let mut rays = [0.0; 128];
-    let mut times = [0.0; 32];
+    let mut times = [0.0; 64];
     let mut told = [0u64; 128];
     sky_call(
         fd,
         triangles,
+        materials,
         index,
         boxes,
         links,
@@ -280,6 +340,7 @@ fn sky_room(
 fn sky_call(
     fd: i32,
     triangles: &[f64],
+    materials: &[u32],
     index: &[u32],
     boxes: &[f64],
     links: &[u32],
@@ -290,7 +351,17 @@ fn sky_call(
     if !fill_sky(fd, rays, times, told) {
         return Check::Cut;
     }
-    sky_answer(fd, triangles, index, boxes, links, rays, times, told)
+    sky_answer(
+        fd,
+        triangles,
+        materials,
+        index,
+        boxes,
+        links,
+        rays,
+        times,
+        told,
+    )
 }
 
 fn fill_sky(fd: i32, rays: &mut [f64], times: &mut [f64], told: &mut [u64]) -> bool {
@@ -306,6 +377,7 @@ fn fill_sky(fd: i32, rays: &mut [f64], times: &mut [f64], told: &mut [u64]) -> b
 fn sky_answer(
     fd: i32,
     triangles: &[f64],
+    materials: &[u32],
     index: &[u32],
     boxes: &[f64],
     links: &[u32],
@@ -316,6 +388,7 @@ fn sky_answer(
     let mut at = [0; 1];
     let answer = pigeonmast::pigeonmast_sky(
         triangles,
+        materials,
         index,
         boxes,
         links,

@@ -105,7 +105,7 @@ pub fn same_build(fd: i32, told: &[u64; 2]) -> Check {
     same_longs(fd, told)
 }
 
-pub fn same_walk(fd: i32, told: &[u64; 4]) -> Check {
+pub fn same_walk(fd: i32, told: &[u64; 5]) -> Check {
     same_longs(fd, told)
 }
 

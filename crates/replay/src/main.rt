@@ -22,10 +22,10 @@ fn main() {
     libc::close(fd);
 }
 
-// The whole file: PIGEON01, how many cases, the cases, and nothing after them.
+// The whole file: PIGEON02, how many cases, the cases, and nothing after them.
 fn replay(fd: i32) -> Score {
     let start = Score::new(0, 0, Check::Same);
-    let head = compare::same_words(fd, &[0x4547_4950, 0x3130_4e4f]);
+    let head = compare::same_words(fd, &[0x4547_4950, 0x3230_4e4f]);
     let Check::Same = head else {
         return start.with(Check::Unknown);
     };
@@ -71,7 +71,7 @@ fn tell(score: Score) {
         Check::Unknown => {
             io::write_all(
                 STDOUT_FILENO,
-                b"replay: answers.bin is not of the form PIGEON01\n",
+                b"replay: answers.bin is not of the form PIGEON02\n",
             );
         }
         Check::Same | Check::Differs => {

@@ -3,7 +3,7 @@ use mathlib.Core.Path.{_≡_, refl, sym, ap, subst, _∙_}
 use mathlib.Core.List.{List, _++_}
 use Prim.Native.Nat.{ℕ, _+_, _*_, _%_, _≤_, _<_}
 use native.Mathlib.Omega.{arith}
-use lib.ListN.{length, set, getD, drop}
+use lib.ListN.{length, getD, drop}
 use lib.Seq.{sets}
 use lib.Ieee.{Float, nan}
 use Rattle.lent.specs.Limits.{most-triangles}
@@ -18,7 +18,7 @@ use Rattle.tree.specs.Lent.{Lent, Labelled}
 use Rattle.walk.specs.Answer.{told as answered}
 use Rattle.walk.specs.Walk.{walk}
 use Rattle.sky.specs.declared.Place.{Place}
-use Rattle.sky.specs.Sky.{rayCount, placeOf, placeFor, toldOf, toldFor, timesFor, placeAt, Filling, filling, filled, sky}
+use Rattle.sky.specs.Sky.{rayCount, placeOf, placeFor, toldOf, toldFor, timesOf, timesFor, placeAt, Filling, filling, filled, sky}
 
 pub place-is : (s : Lent) (rays : List Float) (k : ℕ) (r : Ray) (a : Answer) (p : Place) → r ≡ rayAt rays k → answered a ≡ walk s r → p ≡ placeOf (answered a) → p ≡ placeFor s rays k
 unfolding placeFor
@@ -26,7 +26,7 @@ place-is s rays k r a p e f g = g ∙ ap placeOf f ∙ ap (λ (z : Ray). placeOf
 
 module _ (s : Lent) (rays : List Float) where
   -- ---- so many written
-  pub none-yet : (times : List Float) → times ≡ records (timesFor s rays) 0 ++ drop 0 times
+  pub none-yet : (times : List Float) → times ≡ records (timesFor s rays) 0 ++ drop (0 * 3) times
   unfolding records
   none-yet times = refl
 
@@ -35,11 +35,12 @@ module _ (s : Lent) (rays : List Float) where
   none-told told = refl
 
   module _ (k : ℕ) (p : Place) (is : p ≡ placeFor s rays k) where
-    pub time-more : (times room : List Float) → k + 1 ≤ length room → times ≡ records (timesFor s rays) k ++ drop k room → set times k (p .t) ≡ records (timesFor s rays) (k + 1) ++ drop (k + 1) room
+    pub time-more : (times room : List Float) → k * 3 + 3 ≤ length room → times ≡ records (timesFor s rays) k ++ drop (k * 3) room → put 3 times k (timesOf p) ≡ records (timesFor s rays) (k + 1) ++ drop ((k + 1) * 3) room
+    unfolding put
     time-more times room h e =
-        ap (λ (l : List Float). set l k (p .t)) e
-        ∙ ap (λ (q : Place). set (records (timesFor s rays) k ++ drop k room) k (q .t)) is
-        ∙ fill-more (timesFor s rays) room k k (k + 1) (records-length (timesFor s rays) 1 (λ i. refl) k ∙ omega arith) refl h
+        ap (λ (l : List Float). sets l (k * 3) (timesOf p)) e
+        ∙ ap (λ (q : Place). sets (records (timesFor s rays) k ++ drop (k * 3) room) (k * 3) (timesOf q)) is
+        ∙ fill-more (timesFor s rays) room k (k * 3) ((k + 1) * 3) (records-length (timesFor s rays) 3 (λ i. refl) k) (omega arith) (omega arith)
 
     pub told-more : (told room : List ℕ) → k * 5 + 5 ≤ length room → told ≡ records (toldFor s rays) k ++ drop (k * 5) room → put 5 told k (toldOf p) ≡ records (toldFor s rays) (k + 1) ++ drop ((k + 1) * 5) room
     unfolding put
@@ -49,22 +50,22 @@ module _ (s : Lent) (rays : List Float) where
         ∙ fill-more (toldFor s rays) room k (k * 5) ((k + 1) * 5) (records-length (toldFor s rays) 5 (λ i. refl) k) (omega arith) (omega arith)
 
   place-in : (times : List Float) (told : List ℕ) (n k : ℕ) → k < n
-      → placeAt (records (timesFor s rays) n ++ drop n times) (records (toldFor s rays) n ++ drop (n * 5) told) k ≡ placeFor s rays k
-  place-in times told n k h = rw (at (k * 5) 0 (omega arith) (omega arith), at (k * 5 + 1) 1 (omega arith) refl, at (k * 5 + 2) 2 (omega arith) refl, at (k * 5 + 3) 3 (omega arith) refl, at (k * 5 + 4) 4 (omega arith) refl, time)
+      → placeAt (records (timesFor s rays) n ++ drop (n * 3) times) (records (toldFor s rays) n ++ drop (n * 5) told) k ≡ placeFor s rays k
+  place-in times told n k h = rw (at (k * 5) 0 (omega arith) (omega arith), at (k * 5 + 1) 1 (omega arith) refl, at (k * 5 + 2) 2 (omega arith) refl, at (k * 5 + 3) 3 (omega arith) refl, at (k * 5 + 4) 4 (omega arith) refl, time (k * 3) 0 (omega arith) (omega arith), time (k * 3 + 1) 1 (omega arith) refl, time (k * 3 + 2) 2 (omega arith) refl)
     where
       at : (p j : ℕ) → j < 5 → p ≡ k * 5 + j → getD (records (toldFor s rays) n ++ drop (n * 5) told) p 0 ≡ getD (toldFor s rays k) j 0
       at p j l e = records-at (toldFor s rays) 5 (λ i. refl) n (drop (n * 5) told) k p j 0 h l e
 
-      time : getD (records (timesFor s rays) n ++ drop n times) k nan ≡ placeFor s rays k .t
-      time = records-at (timesFor s rays) 1 (λ i. refl) n (drop n times) k k 0 nan h (omega arith) (omega arith)
+      time : (p j : ℕ) → j < 3 → p ≡ k * 3 + j → getD (records (timesFor s rays) n ++ drop (n * 3) times) p nan ≡ getD (timesFor s rays k) j nan
+      time p j l e = records-at (timesFor s rays) 3 (λ i. refl) n (drop (n * 3) times) k p j nan h l e
 
   -- ---- the call
-  pub filled-is : (n : ℕ) (times times′ : List Float) (told told′ : List ℕ) → times′ ≡ records (timesFor s rays) n ++ drop n times → told′ ≡ records (toldFor s rays) n ++ drop (n * 5) told → filling none times′ told′ ≡ filled s rays n times told
+  pub filled-is : (n : ℕ) (times times′ : List Float) (told told′ : List ℕ) → times′ ≡ records (timesFor s rays) n ++ drop (n * 3) times → told′ ≡ records (toldFor s rays) n ++ drop (n * 5) told → filling none times′ told′ ≡ filled s rays n times told
   unfolding filled
   filled-is n times times′ told told′ e f = rw (e, f)
 
   -- where none of the checks fails, the call is served
-  pub served : (times : List Float) (told : List ℕ) → length (s .mesh .triangles) % 12 ≡ 0 → triangleCount (s .mesh .triangles) ≤ most-triangles → Labelled (s .mesh) → length rays % 6 ≡ 0 → rayCount rays ≤ length times → rayCount rays * 5 ≤ length told
+  pub served : (times : List Float) (told : List ℕ) → length (s .mesh .triangles) % 12 ≡ 0 → triangleCount (s .mesh .triangles) ≤ most-triangles → Labelled (s .mesh) → length rays % 6 ≡ 0 → rayCount rays * 3 ≤ length times → rayCount rays * 5 ≤ length told
       → sky s rays times told .refusal ≡ none
   unfolding sky filled
   served times told whole few named sixes timed roomy = ap (λ (o : Filling). o .refusal) (sym (ends (goes (agree whole) (goes (not-below few) (goes (agree named) (goes (agree sixes) (goes (not-below timed) (goes (not-below roomy) (serves refl)))))))))

@@ -23,11 +23,11 @@ abbrev pub rayCount : List Float → ℕ
 rayCount rays = length rays / 6
 
 -- ---- one place
--- Rule K2: how the walk ended, what was hit or refused, t, both counts, and the material; zeros for what there isn't
+-- Rule K2: how the walk ended, what was hit or refused, t, u, v, both counts, and the material; zeros for what there isn't
 unfoldable pub placed : Refusal → Found → ℕ → ℕ → Place
-placed none (At h) boxes triangles = record { outcome = 100; which = h .triangle; t = h .t; boxes = boxes; triangles = triangles; material = h .material }
-placed none Nothing boxes triangles = record { outcome = 0; which = 0; t = nought; boxes = boxes; triangles = triangles; material = 0 }
-placed (numbered number at) hit boxes triangles = record { outcome = number; which = at; t = nought; boxes = 0; triangles = 0; material = 0 }
+placed none (At h) boxes triangles = record { outcome = 100; which = h .triangle; t = h .t; u = h .u; v = h .v; boxes = boxes; triangles = triangles; material = h .material }
+placed none Nothing boxes triangles = record { outcome = 0; which = 0; t = nought; u = nought; v = nought; boxes = boxes; triangles = triangles; material = 0 }
+placed (numbered number at) hit boxes triangles = record { outcome = number; which = at; t = nought; u = nought; v = nought; boxes = 0; triangles = 0; material = 0 }
 
 unfoldable pub placeOf : Told → Place
 placeOf a = placed (a .refusal) (a .hit) (a .boxes) (a .triangles)
@@ -43,16 +43,21 @@ toldOf p = p .outcome ∷ p .which ∷ p .boxes ∷ p .triangles ∷ p .material
 abbrev pub toldFor : Lent → List Float → ℕ → List ℕ
 toldFor s rays k = toldOf (placeFor s rays k)
 
--- Rule K2: and one float
+-- Rule K2: and three floats
+abbrev pub timesOf : Place → List Float
+timesOf p = p .t ∷ p .u ∷ p .v ∷ []
+
 abbrev pub timesFor : Lent → List Float → ℕ → List Float
-timesFor s rays k = placeFor s rays k .t ∷ []
+timesFor s rays k = timesOf (placeFor s rays k)
 
 -- place k of the answer room, as a caller reads it
 abbrev pub placeAt : List Float → List ℕ → ℕ → Place
 placeAt times told k = record {
   outcome = getD told (k * 5) 0;
   which = getD told (k * 5 + 1) 0;
-  t = getD times k nan;
+  t = getD times (k * 3) nan;
+  u = getD times (k * 3 + 1) nan;
+  v = getD times (k * 3 + 2) nan;
   boxes = getD told (k * 5 + 2) 0;
   triangles = getD told (k * 5 + 3) 0;
   material = getD told (k * 5 + 4) 0;
@@ -75,7 +80,7 @@ filling refusal times told = record { refusal = refusal; times = times; told = t
 
 -- Rule K3: one place for each of n rays; room beyond them stays
 unfoldable pub filled : Lent → List Float → ℕ → List Float → List ℕ → Filling
-filled s rays n times told = filling none (records (timesFor s rays) n ++ drop n times) (records (toldFor s rays) n ++ drop (n * 5) told)
+filled s rays n times told = filling none (records (timesFor s rays) n ++ drop (n * 3) times) (records (toldFor s rays) n ++ drop (n * 5) told)
 
 -- Rule K4: the whole call is refused, and writes nothing, for the mesh (1, 2) and its materials (18), for rays that are not in sixes (14), and for
 -- room that is too short in times or in told (13)
@@ -86,7 +91,7 @@ sky s rays times told =
     ∷ crowded (s .mesh .triangles)
     ∷ unlabelled (s .mesh .triangles) (s .mesh .materials)
     ∷ check (not (eqb (length rays % 6) 0)) 14 0
-    ∷ check (ltb (length times) (rayCount rays)) 13 0
+    ∷ check (ltb (length times) (rayCount rays * 3)) 13 0
     ∷ check (ltb (length told) (rayCount rays * 5)) 13 0
     ∷ [])
     (λ number at. filling (numbered number at) times told)

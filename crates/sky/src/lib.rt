@@ -5,11 +5,11 @@ use walk::Answer;
 ghost use mathlib.Core.Path.{_≡_};
 ghost use mathlib.Core.List.{_++_};
 ghost use Prim.Native.Nat.{_+_, _*_, _≤_};
-ghost use lib.ListN.{length, set, drop};
+ghost use lib.ListN.{length, drop};
 ghost use Rattle.lent.specs.Flat.{put as written, records};
 ghost use Rattle.tree.specs.Lent.{lent};
 ghost use Rattle.walk.specs.Answer.{told as answered};
-ghost use Rattle.sky.specs.Sky.{placeOf, toldOf, timesFor, toldFor, skyRefusal, filling, sky};
+ghost use Rattle.sky.specs.Sky.{placeOf, toldOf, timesOf, timesFor, toldFor, skyRefusal, filling, sky};
 
 // What the call answers: every ray's place is filled, or the whole call is refused, with a number and `at`.
 pub enum Filled {
@@ -17,12 +17,14 @@ pub enum Filled {
     Refused { number: u32, at: u64 },
 }
 
-// What one place holds (rule K2): 0 for a miss, 100 for a hit, else the refusal number; which triangle, or where it was refused; t; the box
-// tests and the triangle tests; the material; zeros for what there isn't.
+// What one place holds (rule K2): 0 for a miss, 100 for a hit, else the refusal number; which triangle, or where it was refused; t; u and
+// v; the box tests and the triangle tests; the material; zeros for what there isn't.
 pub struct Place {
     pub outcome: u64,
     pub which: u64,
     pub t: f64,
+    pub u: f64,
+    pub v: f64,
     pub boxes: u64,
     pub triangles: u64,
     pub material: u64,
@@ -41,6 +43,8 @@ fn place_of(answer: Answer) -> Place
             outcome: 100,
             which: hit.triangle as u64,
             t: hit.t,
+            u: hit.u,
+            v: hit.v,
             boxes,
             triangles,
             material: hit.material as u64,
@@ -49,6 +53,8 @@ fn place_of(answer: Answer) -> Place
             outcome: 0,
             which: 0,
             t: 0.0,
+            u: 0.0,
+            v: 0.0,
             boxes,
             triangles,
             material: 0,
@@ -57,6 +63,8 @@ fn place_of(answer: Answer) -> Place
             outcome: number as u64,
             which: at,
             t: 0.0,
+            u: 0.0,
+            v: 0.0,
             boxes: 0,
             triangles: 0,
             material: 0,
@@ -64,14 +72,17 @@ fn place_of(answer: Answer) -> Place
     }
 }
 
-// Place k, written: one number of `times` and five of `told`.
+// Place k, written: three numbers of `times` and five of `told`.
 fn put(times: &mut [f64], told: &mut [u64], k: usize, place: Place)
-    requires { ⌜ (k + 1 ≤ length (now times)) × (k * 5 + 5 ≤ length (now told)) ⌝ }
-    ensures { λ _. ⌜ now (times .exit) ≡ set (now (times .entry)) k (place .t) ⌝ }
+    requires { ⌜ (k * 3 + 3 ≤ length (now times)) × (k * 5 + 5 ≤ length (now told)) ⌝ }
+    ensures { λ _. ⌜ now (times .exit) ≡ written 3 (now (times .entry)) k (timesOf place) ⌝ }
     ensures { λ _. ⌜ now (told .exit) ≡ written 5 (now (told .entry)) k (toldOf place) ⌝ }
 {
     let at = k * 5;
-    times[k] = place.t;
+    let from = k * 3;
+    times[from] = place.t;
+    times[from + 1] = place.u;
+    times[from + 2] = place.v;
     told[at] = place.outcome;
     told[at + 1] = place.which;
     told[at + 2] = place.boxes;
@@ -91,8 +102,8 @@ fn fill(
     times: &mut [f64],
     told: &mut [u64],
 )
-    requires { ⌜ (n ≤ length (now times)) × (n * 5 ≤ length (now told)) ⌝ }
-    ensures { λ _. ⌜ now (times .exit) ≡ records (timesFor (lent (now (triangles .entry)) (now (materials .entry)) (now (index .entry)) (now (boxes .entry)) (now (links .entry))) (now (rays .entry))) n ++ drop n (now (times .entry)) ⌝ }
+    requires { ⌜ (n * 3 ≤ length (now times)) × (n * 5 ≤ length (now told)) ⌝ }
+    ensures { λ _. ⌜ now (times .exit) ≡ records (timesFor (lent (now (triangles .entry)) (now (materials .entry)) (now (index .entry)) (now (boxes .entry)) (now (links .entry))) (now (rays .entry))) n ++ drop (n * 3) (now (times .entry)) ⌝ }
     ensures { λ _. ⌜ now (told .exit) ≡ records (toldFor (lent (now (triangles .entry)) (now (materials .entry)) (now (index .entry)) (now (boxes .entry)) (now (links .entry))) (now (rays .entry))) n ++ drop (n * 5) (now (told .entry)) ⌝ }
 {
     let mut k: usize = 0;
@@ -104,11 +115,11 @@ fn fill(
     }
 }
 
-// The walk of every ray, six numbers each: origin, direction. Place k is what `walk` answers for ray k: times[k] is t of a hit, else 0, and
-// told[5k..5k+5] are the outcome (0 a miss, 100 a hit, else the refusal number), the triangle or the refusal's `at`, the box tests, the triangle
+// The walk of every ray, six numbers each: origin, direction. Place k is what `walk` answers for ray k: times[3k..3k+3] are t, u and v of a
+// hit, else 0, and told[5k..5k+5] are the outcome (0 a miss, 100 a hit, else the refusal number), the triangle or the refusal's `at`, the box tests, the triangle
 // tests and the triangle's material, 0 where none applies. A refused ray does not stop the rest; room beyond the rays stays. The whole call is
 // refused, in this order, and then writes nothing: 1 triangles that are not in twelves; 2 more than 65,536 of them; 18 not one material for each;
-// 14 rays that are not in sixes; 13 times shorter than one a ray or told shorter than five.
+// 14 rays that are not in sixes; 13 times shorter than three a ray or told shorter than five.
 pub fn sky(
     triangles: &[f64],
     materials: &[u32],
@@ -139,7 +150,7 @@ pub fn sky(
     if rays.len() % 6 != 0 {
         return Filled::Refused { number: 14, at: 0 };
     }
-    if times.len() < count {
+    if times.len() < count * 3 {
         return Filled::Refused { number: 13, at: 0 };
     }
     if told.len() < count * 5 {

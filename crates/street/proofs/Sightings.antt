@@ -36,7 +36,7 @@ counted-no s t p h = rw (p, h)
 
 module _ (m i : Matrix) (r : Ray) (h : Hit) (k : ℕ) (p n₀ n : Vec3) (t : Float) (P : p ≡ pointBy m (h .point)) (N₀ : n₀ ≡ normalBy i (h .normal)) (N : n ≡ unit n₀) (T : t ≡ worldT r p) where
   abbrev sight : Sight
-  sight = record { t = t; point = p; normal = n; front = h .front; triangle = h .triangle; placement = k; material = h .material }
+  sight = record { t = t; point = p; normal = n; u = h .u; v = h .v; front = h .front; triangle = h .triangle; placement = k; material = h .material }
 
   sight-is : sight ≡ sightOf m i r h k
   unfolding sightOf

@@ -26,12 +26,14 @@ unit n = cond (eq (lengthOf n) nought) n (divided n (lengthOf n))
 unfoldable pub worldT : Ray → Vec3 → Float
 worldT r point = dot (minus point (r .origin)) (r .direction)
 
--- Rule H9: the hit of placement k, seen from the world; front, the triangle's number and its material are the house's
+-- Rule H9: the hit of placement k, seen from the world; u, v, front, the triangle's number and its material are the house's
 unfoldable pub sightOf : Matrix → Matrix → Ray → Hit → ℕ → Sight
 sightOf matrix inverse r h k = record {
   t = worldT r (pointBy matrix (h .point));
   point = pointBy matrix (h .point);
   normal = unit (normalBy inverse (h .normal));
+  u = h .u;
+  v = h .v;
   front = h .front;
   triangle = h .triangle;
   placement = k;

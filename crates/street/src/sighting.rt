@@ -8,12 +8,14 @@ use triangle::Hit;
 ghost use mathlib.Core.Path.{_≡_};
 ghost use Rattle.street.specs.Sighting.{unit, worldT, worldHit, ahead, better};
 
-// What a ray finds in a street: t is (point - origin) · direction; the normal has length 1, or is zero; whether the house is seen from its front there; the
-// house's triangle, the placement, the triangle's material.
+// What a ray finds in a street: t is (point - origin) · direction; the normal has length 1, or is zero; where on the triangle it is and whether that is its front,
+// as the house has them; the house's triangle, the placement, the triangle's material.
 pub struct Sight {
     pub t: f64,
     pub point: Vec3,
     pub normal: Vec3,
+    pub u: f64,
+    pub v: f64,
     pub front: bool,
     pub triangle: u32,
     pub placement: u32,
@@ -37,6 +39,8 @@ pub fn world_hit(matrix: Matrix, inverse: Matrix, ray: Ray, hit: Hit, placement:
             t,
             point,
             normal,
+            u: hit.u,
+            v: hit.v,
             front: hit.front,
             triangle: hit.triangle,
             placement,

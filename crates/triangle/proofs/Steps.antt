@@ -101,17 +101,17 @@ none-first d u v t low all x y h = go (lt (magnitude d) ten-billionth) (le nough
     go false true true false false p q r = absurd (rw (← x, ← y, h) at (least u v (rw p tt) q r))
 
 -- ---- the hit
-abbrev pub hit : Float → Vec3 → Vec3 → Bool → ℕ → ℕ → Hit
-hit t point normal front k m = record { t = t; point = point; normal = normal; front = front; triangle = k; material = m }
+abbrev pub hit : Float → Vec3 → Vec3 → Float → Float → Bool → ℕ → ℕ → Hit
+hit t point normal u v front k m = record { t = t; point = point; normal = normal; u = u; v = v; front = front; triangle = k; material = m }
 
-pub hit-front : (r : Ray) (a : Triangle) (k m : ℕ) (t : Float) (point : Vec3) (d : Float) → point ≡ pointAt r t → d ≡ dot (r .direction) (a .normal) → lt d nought ≡ true → hit t point (a .normal) true k m ≡ hitAt r a k m t
-unfolding hitAt faces
-hit-front r a k m t point d p q h = rw (← p, ← q, h)
+pub hit-front : (r : Ray) (a : Triangle) (k m : ℕ) (t : Float) (point : Vec3) (c : Corners) (x : Crossing) (d : Float) → point ≡ pointAt r t → c ≡ cornersOf a → x ≡ crossingOf r c → d ≡ dot (r .direction) (a .normal) → lt d nought ≡ true → hit t point (a .normal) (x .u) (x .v) true k m ≡ hitAt r a k m t
+unfolding hitAt faces crossingOf
+hit-front r a k m t point c x d p i j q h = rw (← p, ← q, h, j, i)
 
-pub hit-back : (r : Ray) (a : Triangle) (k m : ℕ) (t : Float) (point turned : Vec3) (d : Float) → point ≡ pointAt r t → d ≡ dot (r .direction) (a .normal) → lt d nought ≡ false → turned ≡ negated (a .normal)
-    → hit t point turned false k m ≡ hitAt r a k m t
-unfolding hitAt faces
-hit-back r a k m t point turned d p q h e = rw (← p, ← q, h, ← e)
+pub hit-back : (r : Ray) (a : Triangle) (k m : ℕ) (t : Float) (point turned : Vec3) (c : Corners) (x : Crossing) (d : Float) → point ≡ pointAt r t → c ≡ cornersOf a → x ≡ crossingOf r c → d ≡ dot (r .direction) (a .normal) → lt d nought ≡ false → turned ≡ negated (a .normal)
+    → hit t point turned (x .u) (x .v) false k m ≡ hitAt r a k m t
+unfolding hitAt faces crossingOf
+hit-back r a k m t point turned c x d p i j q h e = rw (← p, ← q, h, ← e, j, i)
 
 -- ---- reading
 abbrev pub triangle : Vec3 → Vec3 → Vec3 → Vec3 → Triangle

@@ -1,4 +1,5 @@
 pub mod Mesh
 pub mod Meeting
+pub mod Spot
 pub mod Normal
 pub mod Refilled

@@ -71,9 +71,9 @@ distance r a = distanceTo r (cornersOf a)
 unfoldable pub faces : Ray → Triangle → Bool
 faces r a = lt (dot (r .direction) (a .normal)) nought
 
--- Rule T5: the normal on the ray's side, with all else that a hit has
+-- Rules T5 and T8: the normal on the ray's side, u and v of the test, with all else that a hit has
 unfoldable pub hitAt : Ray → Triangle → ℕ → ℕ → Float → Hit
-hitAt r a k m t = record { t = t; point = pointAt r t; normal = cond (faces r a) (a .normal) (negated (a .normal)); front = faces r a; triangle = k; material = m }
+hitAt r a k m t = record { t = t; point = pointAt r t; normal = cond (faces r a) (a .normal) (negated (a .normal)); u = uOf r (cornersOf a); v = vOf r (cornersOf a); front = faces r a; triangle = k; material = m }
 
 unfoldable pub found : Ray → Triangle → ℕ → ℕ → Distance → Found
 found r a k m None = Nothing

@@ -30,12 +30,14 @@ pub struct Corners {
     pub v2: Vec3,
 }
 
-// What a ray finds where it meets a triangle: the distance, the point, the normal on the ray's side, whether that side is the front, and the
-// triangle's number and material.
+// What a ray finds where it meets a triangle: the distance, the point, the normal on the ray's side, where on the triangle it is (u
+// along the edge from v0 to v1, v along that to v2), whether that side is the front, and the triangle's number and material.
 pub struct Hit {
     pub t: f64,
     pub point: Vec3,
     pub normal: Vec3,
+    pub u: f64,
+    pub v: f64,
     pub front: bool,
     pub triangle: u32,
     pub material: u32,
@@ -135,17 +137,20 @@ impl Triangle {
         self.corners().distance(ray)
     }
 
-    // The hit at distance t (rule T5), with the normal turned to the ray's side.
+    // The hit at distance t (rule T5), with the normal turned to the ray's side, and u and v worked out as the test works them out.
     pub fn hit(self, ray: Ray, t: f64, number: u32, material: u32) -> Hit
         ensures { λ r. ⌜ r ≡ hitAt ray self number material t ⌝ }
     {
         let point = ray.at(t);
+        let spot = self.corners().crossing(ray);
         let normal = self.normal;
         if ray.direction.dot(normal) < 0.0 {
             return Hit {
                 t,
                 point,
                 normal,
+                u: spot.u,
+                v: spot.v,
                 front: true,
                 triangle: number,
                 material,
@@ -156,6 +161,8 @@ impl Triangle {
             t,
             point,
             normal: turned,
+            u: spot.u,
+            v: spot.v,
             front: false,
             triangle: number,
             material,

@@ -1,10 +1,23 @@
 //! The calls under test, by value: Pigeonmast's, or the reading's.
 
-pub type Build = fn(&[f64], &mut [u32], &mut [f64], &mut [u32], &mut [u64; 2]) -> u32;
-pub type Walk = fn(&[f64], &[u32], &[f64], &[u32], &[f64; 6], &mut [f64; 7], &mut [u64; 4]) -> u32;
+use crate::Lent;
+use reading::{Numbers, Told};
 
-pub type Sky =
-    fn(&[f64], &[u32], &[f64], &[u32], &[f64], &mut [f64], &mut [u64], &mut [u64; 1]) -> u32;
+pub type Build = fn(&[f64], &mut [u32], &mut [f64], &mut [u32], &mut [u64; 2]) -> u32;
+pub type Walk =
+    fn(&[f64], &[u32], &[u32], &[f64], &[u32], &[f64; 6], &mut Numbers, &mut Told) -> u32;
+
+pub type Sky = fn(
+    &[f64],
+    &[u32],
+    &[u32],
+    &[f64],
+    &[u32],
+    &[f64],
+    &mut [f64],
+    &mut [u64],
+    &mut [u64; 1],
+) -> u32;
 
 #[derive(Clone, Copy)]
 pub struct Calls {
@@ -12,10 +25,54 @@ pub struct Calls {
     pub walk: Walk,
     pub sky: Sky,
     pub slab: fn(&[f64; 6], &[f64; 6], &mut [f64; 2]) -> u32,
-    pub triangle: fn(&[f64; 12], &[f64; 6], &mut [f64; 7]) -> u32,
+    pub triangle: fn(&[f64; 12], &[f64; 6], &mut Numbers) -> u32,
     pub root: fn(f64) -> f64,
     pub new: fn(&[f64; 9], &mut [f64; 12]),
     pub normals: fn(&mut [f64], &mut [u64; 1]) -> u32,
+}
+
+impl Calls {
+    pub fn walk_lent(
+        &self,
+        lent: Lent,
+        ray: &[f64; 6],
+        numbers: &mut Numbers,
+        told: &mut Told,
+    ) -> u32 {
+        let lists = lent.lists;
+        (self.walk)(
+            lent.mesh,
+            lent.materials,
+            &lists.index,
+            &lists.boxes,
+            &lists.links,
+            ray,
+            numbers,
+            told,
+        )
+    }
+
+    pub fn sky_lent(
+        &self,
+        lent: Lent,
+        rays: &[f64],
+        times: &mut [f64],
+        told: &mut [u64],
+        at: &mut [u64; 1],
+    ) -> u32 {
+        let lists = lent.lists;
+        (self.sky)(
+            lent.mesh,
+            lent.materials,
+            &lists.index,
+            &lists.boxes,
+            &lists.links,
+            rays,
+            times,
+            told,
+            at,
+        )
+    }
 }
 
 pub const READING: Calls = Calls {

@@ -6,50 +6,39 @@
 use crate::calls::{all, same, READING};
 use crate::hostile::Hostile;
 use crate::{ties, world};
+use reading::{Numbers, HIT_NUMBERS, WALK_TOLD};
 use std::panic::catch_unwind;
 
 pub fn check(case: &Hostile) -> Result<(), String> {
-    let lists = &case.lists;
-    let (mut numbers, mut told) = ([0.0; 7], [0; 4]);
-    let number = (READING.walk)(
-        &case.mesh,
-        &lists.index,
-        &lists.boxes,
-        &lists.links,
-        &case.ray,
-        &mut numbers,
-        &mut told,
-    );
+    let (mut numbers, mut told) = ([0.0; HIT_NUMBERS], [0; WALK_TOLD]);
+    let number = READING.walk_lent(case.lent(), &case.ray, &mut numbers, &mut told);
     if ![0, 11, 100].contains(&number) {
         return Ok(());
     }
     let answer = catch_unwind(|| {
-        let tree = world::foreign(lists);
+        let tree = world::foreign(&case.lists);
         let ray = world::ray(&case.ray);
-        let triangles = world::triangles(&case.mesh);
-        ties::walk(&ray, &tree, &triangles)
+        let triangles = world::with_materials(&case.mesh, &case.materials);
+        let ruled = ties::walk(&ray, &tree, &triangles)?;
+        let hit = ruled.hit.as_ref();
+        let told = world::told(hit, &triangles, ruled.boxes, ruled.tests);
+        Ok::<_, String>((told, hit.map(world::numbers)))
     });
     let answer = match answer {
-        Ok(ruled) => ruled.map(|w| Ok((w.hit, w.boxes, w.tests)))?,
-        Err(panicked) => Err(panicked),
+        Ok(ruled) => Some(ruled?),
+        Err(_panicked) => None,
     };
-    match (number, answer) {
-        (11, Err(_)) => Ok(()),
-        (0, Ok((None, boxes, tests))) if told == [0, 0, boxes, tests] => Ok(()),
-        (100, Ok((Some(hit), boxes, tests)))
-            if told
-                == [
-                    hit.surface_index as u64,
-                    u64::from(hit.is_front_face),
-                    boxes,
-                    tests,
-                ]
-                && all(&world::numbers(&hit), &numbers, same) =>
-        {
-            Ok(())
+    let agrees = match &answer {
+        None => number == 11,
+        Some((answered, hit)) => {
+            let same_hit = |wanted: &Numbers| all(wanted, &numbers, same);
+            *answered == (number, told) && hit.as_ref().is_none_or(same_hit)
         }
-        (_, answer) => Err(format!(
-            "oracle: the reading answers {number} {told:?}, the Rust {answer:?}"
-        )),
+    };
+    if !agrees {
+        return Err(format!(
+            "oracle: the reading answers {number} {told:?} {numbers:?}, the Rust {answer:?}"
+        ));
     }
+    Ok(())
 }

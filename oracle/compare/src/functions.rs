@@ -3,6 +3,7 @@
 use crate::calls::{all, equal, same, Calls, READING};
 use crate::random::Random;
 use crate::world;
+use reading::HIT_NUMBERS;
 
 /// Mostly numbers under which something is met, with some put in anywhere.
 fn arbitrary<const K: usize>(r: &mut Random, mut numbers: [f64; K]) -> [f64; K] {
@@ -103,13 +104,13 @@ pub fn slab(calls: &Calls, bounds: &[f64; 6], ray: &[f64; 6]) -> Result<bool, St
 
 pub fn triangle(calls: &Calls, t: &[f64; 12], ray: &[f64; 6]) -> Result<bool, String> {
     let run = |calls: &Calls| {
-        let mut numbers = [-7.5; 7];
+        let mut numbers = [-7.5; HIT_NUMBERS];
         ((calls.triangle)(t, ray, &mut numbers), numbers)
     };
     let (number, numbers) = run(calls);
     let found = world::triangle(t).intersect(&world::ray(ray), 0);
     let (wanted, wanted_numbers) = match &found {
-        None => (0, [-7.5; 7]),
+        None => (0, [-7.5; HIT_NUMBERS]),
         Some(hit) => (1 + u32::from(hit.is_front_face), world::numbers(hit)),
     };
     let read = run(&READING);

@@ -5,13 +5,24 @@
 
 use crate::random::Random;
 use crate::rays::{self, Ray};
-use crate::{meshes, node_room, Lists};
+use crate::{meshes, node_room, Lent, Lists};
 
 #[derive(Clone, Debug)]
 pub struct Hostile {
     pub mesh: Vec<f64>,
+    pub materials: Vec<u32>,
     pub lists: Lists,
     pub ray: Ray,
+}
+
+impl Hostile {
+    pub fn lent(&self) -> Lent<'_> {
+        Lent {
+            mesh: &self.mesh,
+            materials: &self.materials,
+            lists: &self.lists,
+        }
+    }
 }
 
 type Make = fn(&mut Random) -> Hostile;
@@ -43,7 +54,13 @@ pub fn built(r: &mut Random) -> Hostile {
     let nodes = done.map_or(room, |built| built.nodes);
     lists.boxes.truncate(6 * nodes);
     lists.links.truncate(3 * nodes);
-    Hostile { mesh, lists, ray }
+    let materials = meshes::materials(r.bits(), n);
+    Hostile {
+        mesh,
+        materials,
+        lists,
+        ray,
+    }
 }
 
 fn spoiled(r: &mut Random) -> Hostile {
@@ -78,7 +95,9 @@ fn some_bound(r: &mut Random) -> f64 {
 }
 
 fn spoil(r: &mut Random, case: &mut Hostile) {
-    let Hostile { mesh, lists, ray } = case;
+    let Hostile {
+        mesh, lists, ray, ..
+    } = case;
     let nodes = lists.links.len() / 3;
     let about = nodes.max(lists.index.len());
     match r.below(12) {
@@ -185,15 +204,28 @@ fn at_the_end(r: &mut Random) -> Hostile {
     case
 }
 
+/// Materials that are too few, none, or too many.
+fn other_materials(r: &mut Random, materials: &mut Vec<u32>) {
+    match r.below(3) {
+        0 if !materials.is_empty() => materials.truncate(r.below(materials.len())),
+        1 if !materials.is_empty() => materials.clear(),
+        _ => materials.extend(meshes::materials(r.bits(), r.whole(1, 3))),
+    }
+}
+
 /// Slices of lengths that no tree has.
 fn lengths(r: &mut Random) -> Hostile {
     let mut case = built(r);
+    if r.one_in(2) {
+        other_materials(r, &mut case.materials);
+    }
     let lists = &mut case.lists;
-    match r.below(5) {
+    match r.below(6) {
         0 => lists.links.clear(),
         1 => lists.links.truncate(lists.links.len() - r.whole(1, 2)),
         2 => lists.boxes.extend(&WIDE[..r.whole(1, 6)]),
         3 => lists.boxes.truncate(lists.boxes.len() - r.whole(1, 6)),
+        4 => {} // the materials alone
         _ => case.mesh.extend(&WIDE[..r.whole(1, 6)]),
     }
     if r.one_in(3) {
@@ -206,18 +238,20 @@ fn lengths(r: &mut Random) -> Hostile {
     case
 }
 
-/// The few that need much memory: at and just over 65,536 triangles and 131,071
-/// nodes. Every node of the full tree is met, so the last box test is the last
+/// The few that need much memory: at and just over 65,536 triangles, materials
+/// and 131,071 nodes. Every node of the full tree is met, so the last box test is the last
 /// that is allowed.
 pub fn large(r: &mut Random) -> Vec<Hostile> {
     let one = meshes::soup(r, 1);
     let sizes = [
-        (65_536, 131_071),
-        (65_537, 3),
-        (65_536, 131_072),
-        (65_536, 131_073),
+        (65_536, 65_536, 131_071),
+        (65_537, 65_537, 3),
+        (65_537, 65_536, 3),
+        (65_536, 65_536, 131_072),
+        (65_536, 65_536, 131_073),
+        (65_536, 65_537, 131_073),
     ];
-    let make = |(triangles, nodes): (usize, usize)| {
+    let make = |(triangles, materials, nodes): (usize, usize, usize)| {
         let opened = nodes as u32 / 2;
         let mut links: Vec<u32> = (0..opened).flat_map(|k| [2 * k + 1, 0, 0]).collect();
         links.extend((0..=opened).flat_map(|k| [k.min(65_535), 1, 1]));
@@ -225,6 +259,7 @@ pub fn large(r: &mut Random) -> Vec<Hostile> {
         links.truncate(3 * nodes);
         Hostile {
             mesh: one.repeat(triangles),
+            materials: meshes::materials(5, materials),
             lists: Lists {
                 index: (0..65_536).collect(),
                 boxes: WIDE.repeat(nodes),

@@ -29,6 +29,14 @@ pub struct Lists {
     pub links: Vec<u32>,
 }
 
+/// What a walk is lent besides its rays: a mesh with its materials, and a tree.
+#[derive(Clone, Copy, Debug)]
+pub struct Lent<'a> {
+    pub mesh: &'a [f64],
+    pub materials: &'a [u32],
+    pub lists: &'a Lists,
+}
+
 /// R: the nodes that a build of n triangles asks room for.
 pub fn node_room(n: usize) -> usize {
     if n == 0 {

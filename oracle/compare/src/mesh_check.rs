@@ -6,9 +6,10 @@ use crate::calls::{all, equal, same, Calls};
 use crate::random::Random;
 use crate::rays::Ray;
 use crate::world::{self, Tree};
-use crate::{node_room, reading_check, ties, Lists};
+use crate::{meshes, node_room, reading_check, ties, Lent, Lists};
 use published::counts::{cost_loop, intersect_blas_counted};
 use published::scene::intersect_blas;
+use reading::{HIT_NUMBERS, WALK_TOLD};
 
 /// The reading bins slowly: above this many triangles only the Rust is asked.
 const READING_UP_TO: usize = 3_000;
@@ -17,8 +18,15 @@ const READING_UP_TO: usize = 3_000;
 pub struct Case {
     pub mesh: Vec<f64>,
     pub rays: Vec<Ray>,
-    /// Of the spare room and what it holds.
+    /// Of the materials, the spare room and what it holds.
     pub seed: u64,
+}
+
+impl Case {
+    /// Another one for each triangle.
+    pub fn materials(&self) -> Vec<u32> {
+        meshes::materials(self.seed, self.mesh.len() / 12)
+    }
 }
 
 /// What was compared.
@@ -55,7 +63,8 @@ pub fn check(calls: &Calls, case: &Case, tally: &mut Tally) -> Result<(), String
         tally.refused += 1;
         return Ok(());
     }
-    let triangles = world::triangles(&case.mesh);
+    let materials = case.materials();
+    let triangles = world::with_materials(&case.mesh, &materials);
     let (tree, fallback) = world::build_ordered(&triangles);
     tally.fallback += u64::from(fallback);
     let Some(lists) = built(calls, case, &tree)? else {
@@ -71,16 +80,21 @@ pub fn check(calls: &Calls, case: &Case, tally: &mut Tally) -> Result<(), String
     }
     tally.other_trees += u64::from(other);
     let sum = published::lone_scene(tree.nodes.clone(), tree.indices.clone(), triangles.clone());
+    let lent = Lent {
+        mesh: &case.mesh,
+        materials: &materials,
+        lists: &lists,
+    };
     for ray in &case.rays {
         tally.rays += 1;
-        let number = reading_check::walk(calls, &case.mesh, &lists, ray)?;
+        let number = reading_check::walk(calls, lent, ray)?;
         if !reading::triangles::ray_admitted(ray) {
             tally.rays_refused += 1;
             continue;
         }
         tally.hits += u64::from(number == 100);
-        let ruled = walked(calls, &case.mesh, &lists, ray, &tree, &sum)
-            .map_err(|e| format!("{e}; ray {ray:?}"))?;
+        let ruled =
+            walked(calls, lent, ray, &tree, &sum).map_err(|e| format!("{e}; ray {ray:?}"))?;
         tally.ties += u64::from(ruled.tied);
         tally.moved += u64::from(ruled.moved);
         let ray = world::ray(ray);
@@ -201,8 +215,7 @@ fn built(calls: &Calls, case: &Case, tree: &Tree) -> Result<Option<Lists>, Strin
 /// the inner loop of cost.rs, and cost.rs unchanged. What rule E1 wants.
 fn walked(
     calls: &Calls,
-    mesh: &[f64],
-    lists: &Lists,
+    lent: Lent,
     lent_ray: &Ray,
     tree: &Tree,
     scene: &published::scene::BvhScene,
@@ -220,27 +233,11 @@ fn walked(
         return Err("oracle: the counting text does not answer as the published one".into());
     }
     let ruled = ties::walk(&ray, tree, triangles)?;
-    let (mut numbers, mut told) = ([-7.5; 7], [u64::MAX; 4]);
-    let number = (calls.walk)(
-        mesh,
-        &lists.index,
-        &lists.boxes,
-        &lists.links,
-        lent_ray,
-        &mut numbers,
-        &mut told,
-    );
-    let (wanted, wanted_told, wanted_numbers) = match &ruled.hit {
-        None => (0, [0, 0, boxes, tests], [-7.5; 7]),
-        Some(h) => {
-            let front = u64::from(h.is_front_face);
-            (
-                100,
-                [h.surface_index as u64, front, boxes, tests],
-                world::numbers(h),
-            )
-        }
-    };
+    let (mut numbers, mut told) = ([-7.5; HIT_NUMBERS], [u64::MAX; WALK_TOLD]);
+    let number = calls.walk_lent(lent, lent_ray, &mut numbers, &mut told);
+    let hit = ruled.hit.as_ref();
+    let (wanted, wanted_told) = world::told(hit, triangles, boxes, tests);
+    let wanted_numbers = hit.map_or([-7.5; HIT_NUMBERS], world::numbers);
     if (number, told) != (wanted, wanted_told) || !all(&numbers, &wanted_numbers, same) {
         return Err(format!(
             "walk answers {number} {told:?} {numbers:?}, the Rust {wanted} {wanted_told:?} {wanted_numbers:?}"

@@ -5,6 +5,13 @@ use crate::random::Random;
 
 pub type Point = [f64; 3];
 
+/// A material for each of n triangles, no two alike.
+pub fn materials(seed: u64, n: usize) -> Vec<u32> {
+    // Multiplied by an odd number no two become one.
+    let one = |k: usize| (k as u32).wrapping_mul(0x9e37_79b1) ^ seed as u32;
+    (0..n).map(one).collect()
+}
+
 /// Makes a mesh of about n triangles.
 type Make = fn(&mut Random, usize) -> Vec<f64>;
 

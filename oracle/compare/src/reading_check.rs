@@ -3,7 +3,8 @@
 
 use crate::calls::{all, same, Calls, READING};
 use crate::rays::Ray;
-use crate::Lists;
+use crate::{Lent, Lists};
+use reading::{HIT_NUMBERS, WALK_TOLD};
 
 /// `rooms` is what the buffers hold before. Answers the number and `told`.
 pub fn build(calls: &Calls, mesh: &[f64], rooms: &Lists) -> Result<(u32, [u64; 2]), String> {
@@ -33,18 +34,10 @@ pub fn build(calls: &Calls, mesh: &[f64], rooms: &Lists) -> Result<(u32, [u64; 2
     Ok((number, told))
 }
 
-pub fn walk(calls: &Calls, mesh: &[f64], lists: &Lists, ray: &Ray) -> Result<u32, String> {
+pub fn walk(calls: &Calls, lent: Lent, ray: &Ray) -> Result<u32, String> {
     let run = |calls: &Calls| {
-        let (mut numbers, mut told) = ([-7.5; 7], [u64::MAX; 4]);
-        let number = (calls.walk)(
-            mesh,
-            &lists.index,
-            &lists.boxes,
-            &lists.links,
-            ray,
-            &mut numbers,
-            &mut told,
-        );
+        let (mut numbers, mut told) = ([-7.5; HIT_NUMBERS], [u64::MAX; WALK_TOLD]);
+        let number = calls.walk_lent(lent, ray, &mut numbers, &mut told);
         (number, told, numbers)
     };
     let (number, told, numbers) = run(calls);
@@ -58,19 +51,15 @@ pub fn walk(calls: &Calls, mesh: &[f64], lists: &Lists, ray: &Ray) -> Result<u32
 }
 
 /// As `walk`, and that it wrote nothing lent.
-pub fn walk_writes_nothing(
-    calls: &Calls,
-    mesh: &[f64],
-    lists: &Lists,
-    ray: &Ray,
-) -> Result<u32, String> {
-    let (kept_mesh, kept, kept_ray) = (mesh.to_vec(), lists.clone(), *ray);
-    let number = walk(calls, mesh, lists, ray)?;
+pub fn walk_writes_nothing(calls: &Calls, lent: Lent, ray: &Ray) -> Result<u32, String> {
+    let (mesh, materials) = (lent.mesh.to_vec(), lent.materials.to_vec());
+    let (lists, kept_ray) = (lent.lists.clone(), *ray);
+    let number = walk(calls, lent, ray)?;
     let bits = |list: &[f64]| list.iter().map(|x| x.to_bits()).collect::<Vec<_>>();
     // Read anew: the compiler may take it that a shared slice never changes.
-    let (mesh, lists, ray) = std::hint::black_box((mesh, lists, ray));
-    let stays = bits(mesh) == bits(&kept_mesh) && lists.same(&kept) && bits(ray) == bits(&kept_ray);
-    if !stays {
+    let (lent, ray) = std::hint::black_box((lent, ray));
+    let stays = bits(lent.mesh) == bits(&mesh) && lent.materials == materials;
+    if !stays || !lent.lists.same(&lists) || bits(ray) != bits(&kept_ray) {
         return Err("the walk wrote to what it was lent".into());
     }
     Ok(number)

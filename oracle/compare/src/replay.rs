@@ -8,15 +8,18 @@ use crate::mesh_check::{self, Case, Tally};
 use crate::random::Random;
 use crate::rays::{self, Ray};
 use crate::sky_check::{self, Sky};
-use crate::{foreign_check, functions, meshes, node_room, world, Lists};
+use crate::{foreign_check, functions, meshes, node_room, world, Lent, Lists};
+use reading::{Told, WALK_TOLD};
 use std::collections::BTreeMap;
 
 pub const SEED: u64 = 8_128;
-pub const MAGIC: &[u8; 8] = b"PIGEON01";
+pub const MAGIC: &[u8; 8] = b"PIGEON02";
 /// No case is longer than these, so that the reader's arrays can be fixed.
 const MOST: [usize; 4] = [1_024, 128, 1_024, 512];
+/// Nor the materials.
+const MOST_MATERIALS: usize = 128;
 /// Nor the rays and the answer room of a sky.
-const MOST_SKY: [usize; 3] = [128, 32, 128];
+const MOST_SKY: [usize; 3] = [128, 64, 128];
 
 /// What place k of a lent room holds before a call: a word or a number of its
 /// own, so that places exchanged show too.
@@ -103,6 +106,15 @@ impl File {
         Ok(())
     }
 
+    /// A mesh with its materials, and a tree.
+    fn lent(&mut self, lent: Lent) -> Result<(), String> {
+        self.mesh(lent.mesh, lent.lists)?;
+        self.lengths([lent.materials.len()], [MOST_MATERIALS])?;
+        self.words(lent.materials);
+        self.lists(lent.lists);
+        Ok(())
+    }
+
     fn lists(&mut self, lists: &Lists) {
         self.words(&lists.index);
         self.numbers(&lists.boxes);
@@ -131,22 +143,13 @@ impl File {
         Ok(())
     }
 
-    fn walk(&mut self, mesh: &[f64], lists: &Lists, rays: &[Ray]) -> Result<(), String> {
+    fn walk(&mut self, lent: Lent, rays: &[Ray]) -> Result<(), String> {
         self.start(2);
-        self.mesh(mesh, lists)?;
-        self.lists(lists);
+        self.lent(lent)?;
         self.word(rays.len() as u32);
         for ray in rays {
-            let (mut numbers, mut told) = (record(), [0; 4]);
-            let number = (READING.walk)(
-                mesh,
-                &lists.index,
-                &lists.boxes,
-                &lists.links,
-                ray,
-                &mut numbers,
-                &mut told,
-            );
+            let (mut numbers, mut told): (_, Told) = (record(), [0; WALK_TOLD]);
+            let number = READING.walk_lent(lent, ray, &mut numbers, &mut told);
             self.numbers(ray);
             self.answer("walk", number);
             self.numbers(&numbers);
@@ -156,26 +159,16 @@ impl File {
     }
 
     fn sky(&mut self, sky: &Sky) -> Result<(), String> {
-        let Hostile { mesh, lists, .. } = &sky.case;
+        let lent = sky.case.lent();
         self.start(5);
-        self.mesh(mesh, lists)?;
-        self.lists(lists);
+        self.lent(lent)?;
         let lengths = [sky.rays.len(), sky.times.len(), sky.told.len()];
         self.lengths(lengths, MOST_SKY)?;
         self.numbers(&sky.rays);
         self.numbers(&sky.times);
         self.told(&sky.told);
         let (mut times, mut told, mut at) = (sky.times.clone(), sky.told.clone(), [u64::MAX]);
-        let number = (READING.sky)(
-            mesh,
-            &lists.index,
-            &lists.boxes,
-            &lists.links,
-            &sky.rays,
-            &mut times,
-            &mut told,
-            &mut at,
-        );
+        let number = READING.sky_lent(lent, &sky.rays, &mut times, &mut told, &mut at);
         self.answer("sky", number);
         self.told(&at);
         self.numbers(&times);
@@ -213,7 +206,12 @@ fn mesh_cases(file: &mut File, r: &mut Random, mesh: Vec<f64>) -> Result<(), Str
     if let Ok(built) = built {
         lists.boxes.truncate(6 * built.nodes);
         lists.links.truncate(3 * built.nodes);
-        file.walk(mesh, &lists, &case.rays)?;
+        let lent = Lent {
+            mesh,
+            materials: &case.materials(),
+            lists: &lists,
+        };
+        file.walk(lent, &case.rays)?;
     }
     Ok(())
 }
@@ -245,35 +243,37 @@ fn wall_cases(file: &mut File) -> Result<(), String> {
                 boxes: side.repeat(links.len() / 3),
                 links,
             };
+            let mut case = Hostile {
+                mesh: mesh.clone(),
+                materials: vec![90, 91, 92, 93],
+                lists,
+                ray: rays[0],
+            };
             for ray in rays {
-                let (mesh, lists) = (mesh.clone(), lists.clone());
-                foreign_check::check(&Hostile { mesh, lists, ray })?;
+                case.ray = ray;
+                foreign_check::check(&case)?;
             }
-            file.walk(&mesh, &lists, &rays)?;
+            file.walk(case.lent(), &rays)?;
         }
     }
     let (mesh, ray) = meshes::wall_twice();
-    let lists = world::build(&world::triangles(&mesh)).lists();
-    file.walk(&mesh, &lists, &[ray])
+    let lent = Lent {
+        mesh: &mesh,
+        materials: &meshes::materials(3, mesh.len() / 12),
+        lists: &world::build(&world::triangles(&mesh)).lists(),
+    };
+    file.walk(lent, &[ray])
 }
 
 fn hostile_cases(file: &mut File, r: &mut Random) -> Result<(), String> {
     for (_, make) in hostile::KINDS {
-        let mut kept = Kept(BTreeMap::new(), 4);
+        let mut kept = Kept(BTreeMap::new(), 3);
         for _ in 0..2_000 {
             let case = make(r);
-            let lists = &case.lists;
-            let number = (READING.walk)(
-                &case.mesh,
-                &lists.index,
-                &lists.boxes,
-                &lists.links,
-                &case.ray,
-                &mut record(),
-                &mut [0; 4],
-            );
+            let (lent, mut told) = (case.lent(), [0; WALK_TOLD]);
+            let number = READING.walk_lent(lent, &case.ray, &mut record(), &mut told);
             if kept.wants(number) {
-                file.walk(&case.mesh, lists, &[case.ray])?;
+                file.walk(lent, &[case.ray])?;
             }
         }
     }
@@ -336,9 +336,10 @@ fn sky_cases(file: &mut File, r: &mut Random) -> Result<(), String> {
         for (ray, outcome) in sky.rays.chunks_exact(6).zip(outcomes) {
             // At the 65th pending (11) the Rust panics.
             if outcome != 11 {
-                let ray = ray.try_into().unwrap();
-                let (mesh, lists) = (sky.case.mesh.clone(), sky.case.lists.clone());
-                foreign_check::check(&Hostile { mesh, lists, ray })?;
+                foreign_check::check(&Hostile {
+                    ray: ray.try_into().unwrap(),
+                    ..sky.case.clone()
+                })?;
             }
         }
         file.sky(&sky)?;

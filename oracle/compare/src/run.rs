@@ -212,7 +212,7 @@ fn every_hostile(calls: &Calls, plan: &Plan) -> u64 {
             } else {
                 reading_check::walk
             };
-            match walk(calls, &case.mesh, &case.lists, &case.ray) {
+            match walk(calls, case.lent(), &case.ray) {
                 Ok(number) => *answers.entry(number).or_insert(0_u64) += 1,
                 Err(why) => found.add(case.lists.links.len() + case.mesh.len(), || {
                     format!("  {name}: {why}\n  {}", show::hostile(&case))
@@ -234,11 +234,12 @@ fn every_hostile(calls: &Calls, plan: &Plan) -> u64 {
     std::panic::set_hook(hook);
     println!("  large, seed {}:", plan.seed ^ 5);
     for case in hostile::large(&mut Random::new(plan.seed ^ 5)) {
-        match reading_check::walk_writes_nothing(calls, &case.mesh, &case.lists, &case.ray) {
+        match reading_check::walk_writes_nothing(calls, case.lent(), &case.ray) {
             Ok(number) => println!(
-                "    {} nodes, {} triangles: {number}",
+                "    {} nodes, {} triangles, {} materials: {number}",
                 case.lists.links.len() / 3,
-                case.mesh.len() / 12
+                case.mesh.len() / 12,
+                case.materials.len()
             ),
             Err(why) => found.add(usize::MAX, || format!("  large: {why}")),
         }

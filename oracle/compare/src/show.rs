@@ -61,8 +61,9 @@ pub fn mesh(case: &Case) -> String {
 pub fn hostile(case: &Hostile) -> String {
     let lists = &case.lists;
     let mut text = format!(
-        "{} triangle numbers, {} index entries, {} box numbers, {} links\n",
+        "{} triangle numbers, {} materials, {} index entries, {} box numbers, {} links\n",
         case.mesh.len(),
+        case.materials.len(),
         lists.index.len(),
         lists.boxes.len(),
         lists.links.len()
@@ -70,6 +71,8 @@ pub fn hostile(case: &Hostile) -> String {
     for (k, t) in case.mesh.chunks(12).enumerate().take(30) {
         text += &format!("  triangle {k}: {}\n", bits(t));
     }
+    let materials = &case.materials[..case.materials.len().min(30)];
+    text += &format!("  materials: {materials:?}\n");
     text += &format!(
         "  index: {:?}\n",
         &lists.index[..lists.index.len().min(100)]

@@ -5,6 +5,7 @@ use crate::calls::{all, same, Calls, READING};
 use crate::hostile::{self, Hostile};
 use crate::random::Random;
 use crate::rays;
+use reading::{HIT_NUMBERS, PLACE_TIMES, PLACE_TOLD, WALK_TOLD};
 
 /// What a call is given, the answer room as it stands before.
 #[derive(Clone, Debug)]
@@ -43,8 +44,8 @@ fn with_rays(r: &mut Random, case: Hostile, most: usize) -> Sky {
     // Each place holds another number, so that places exchanged show too.
     let (mut numbers, mut words) = (Random::new(r.bits()), Random::new(r.bits()));
     Sky {
-        times: numbers.numbers(room(r, n)),
-        told: (0..room(r, 4 * n)).map(|_| words.bits()).collect(),
+        times: numbers.numbers(room(r, PLACE_TIMES * n)),
+        told: (0..room(r, PLACE_TOLD * n)).map(|_| words.bits()).collect(),
         rays: lent,
         case,
     }
@@ -69,19 +70,10 @@ pub fn large(r: &mut Random) -> Vec<Sky> {
 
 /// The call's number, and the outcomes of its places.
 pub fn check(calls: &Calls, sky: &Sky) -> Result<(u32, Vec<u64>), String> {
-    let lists = &sky.case.lists;
+    let lent = sky.case.lent();
     let run = |calls: &Calls| {
         let (mut times, mut told, mut at) = (sky.times.clone(), sky.told.clone(), [u64::MAX]);
-        let number = (calls.sky)(
-            &sky.case.mesh,
-            &lists.index,
-            &lists.boxes,
-            &lists.links,
-            &sky.rays,
-            &mut times,
-            &mut told,
-            &mut at,
-        );
+        let number = calls.sky_lent(lent, &sky.rays, &mut times, &mut told, &mut at);
         (number, at[0], times, told)
     };
     let (number, at, times, told) = run(calls);
@@ -100,36 +92,31 @@ pub fn check(calls: &Calls, sky: &Sky) -> Result<(u32, Vec<u64>), String> {
         return Ok((number, vec![]));
     }
     let n = sky.rays.len() / 6;
-    for k in 0..n {
-        place(calls, sky, k, times[k], &told[4 * k..4 * k + 4])?;
+    let (times, spare_times) = times.split_at(PLACE_TIMES * n);
+    let (told, spare_told) = told.split_at(PLACE_TOLD * n);
+    let places = times.chunks(PLACE_TIMES).zip(told.chunks(PLACE_TOLD));
+    for (k, (times, told)) in places.enumerate() {
+        place(calls, sky, k, times, told)?;
     }
-    let spared = told[4 * n..] == sky.told[4 * n..] && all(&times[n..], &sky.times[n..], same);
-    if !spared {
+    let spared = spare_told == &sky.told[told.len()..];
+    if !spared || !all(spare_times, &sky.times[times.len()..], same) {
         return Err("sky wrote beyond its rays".into());
     }
-    Ok((number, told[..4 * n].iter().copied().step_by(4).collect()))
+    Ok((number, told.iter().copied().step_by(PLACE_TOLD).collect()))
 }
 
 /// Place k against the single call of ray k.
-fn place(calls: &Calls, sky: &Sky, k: usize, t: f64, told: &[u64]) -> Result<(), String> {
-    let lists = &sky.case.lists;
+fn place(calls: &Calls, sky: &Sky, k: usize, times: &[f64], told: &[u64]) -> Result<(), String> {
     let ray = std::array::from_fn(|i| sky.rays[6 * k + i]);
-    let (mut numbers, mut one) = ([0.0; 7], [0; 4]);
-    let number = (calls.walk)(
-        &sky.case.mesh,
-        &lists.index,
-        &lists.boxes,
-        &lists.links,
-        &ray,
-        &mut numbers,
-        &mut one,
-    );
+    let (mut numbers, mut one) = ([0.0; HIT_NUMBERS], [0; WALK_TOLD]);
+    let number = calls.walk_lent(sky.case.lent(), &ray, &mut numbers, &mut one);
+    let [at, _front, boxes, tests, material] = one;
+    let wanted: [u64; PLACE_TOLD] = [u64::from(number), at, boxes, tests, material];
     // A walk that is no hit leaves numbers at 0.
-    let wanted = [u64::from(number), one[0], one[2], one[3]];
-    if told != wanted || !same(t, numbers[0]) {
+    let wanted_times: [f64; PLACE_TIMES] = [numbers[0]];
+    if told != wanted || !all(times, &wanted_times, same) {
         return Err(format!(
-            "place {k} holds {t} {told:?}, the single walk gives {} {wanted:?}",
-            numbers[0]
+            "place {k} holds {times:?} {told:?}, the single walk gives {wanted_times:?} {wanted:?}"
         ));
     }
     Ok(())

@@ -6,6 +6,7 @@ use published::aabb::Aabb;
 use published::builder::{self, BvhNode};
 use published::ordered;
 use published::triangle::Triangle;
+use reading::{Numbers, Told};
 
 fn vector(n: &[f64]) -> Vec3 {
     Vec3::new(n[0], n[1], n[2])
@@ -33,6 +34,15 @@ pub fn triangles(mesh: &[f64]) -> Vec<Triangle> {
     mesh.chunks_exact(12).map(triangle).collect()
 }
 
+/// The same, with a material for each.
+pub fn with_materials(mesh: &[f64], materials: &[u32]) -> Vec<Triangle> {
+    let mut all = triangles(mesh);
+    for (t, material) in all.iter_mut().zip(materials) {
+        t.material_id = *material;
+    }
+    all
+}
+
 pub fn ray(n: &[f64; 6]) -> Ray {
     Ray {
         origin: vector(&n[..3]),
@@ -48,9 +58,26 @@ pub fn bounds(n: &[f64]) -> Aabb {
 }
 
 /// t, point, normal.
-pub fn numbers(hit: &HitRecord) -> [f64; 7] {
+pub fn numbers(hit: &HitRecord) -> Numbers {
     let (p, n) = (hit.point, hit.normal);
     [hit.t, p.x, p.y, p.z, n.x, n.y, n.z]
+}
+
+/// What a walk answers and tells where the Rust has this hit or miss, whose
+/// `surface_index` is the triangle's number. The Rust's hit names no material:
+/// it is that of its triangle.
+pub fn told(
+    hit: Option<&HitRecord>,
+    triangles: &[Triangle],
+    boxes: u64,
+    tests: u64,
+) -> (u32, Told) {
+    let Some(hit) = hit else {
+        return (0, [0, 0, boxes, tests, 0]);
+    };
+    let (i, front) = (hit.surface_index, u64::from(hit.is_front_face));
+    let material = u64::from(triangles[i].material_id);
+    (100, [i as u64, front, boxes, tests, material])
 }
 
 /// A tree of the Rust's.

@@ -3,6 +3,7 @@
 
 use compare::calls::READING;
 use compare::{meshes, random::Random, sky_check, world};
+use reading::PLACE_TOLD;
 use std::collections::BTreeSet;
 
 #[test]
@@ -42,16 +43,19 @@ fn skies_come_to_every_answer() {
     let mut r = Random::new(5);
     let (mut answers, mut outcomes) = (BTreeSet::new(), BTreeSet::new());
     let (mut spare, mut among_others) = (0, 0);
-    for _ in 0..4_000 {
+    for _ in 0..10_000 {
         let sky = sky_check::sky(&mut r);
         let (number, places) = sky_check::check(&READING, &sky).unwrap();
         answers.insert(number);
-        spare += u32::from(number == 0 && sky.told.len() > 4 * places.len());
+        spare += u32::from(number == 0 && sky.told.len() > PLACE_TOLD * places.len());
         let served = |outcome: &u64| [0, 100].contains(outcome);
         among_others += u32::from(places.iter().any(served) && !places.iter().all(served));
         outcomes.extend(places);
     }
-    assert!(answers.is_superset(&[0, 1, 13, 14].into()), "{answers:?}");
+    assert!(
+        answers.is_superset(&[0, 1, 13, 14, 18].into()),
+        "{answers:?}"
+    );
     let wanted = [0, 5, 7, 8, 9, 10, 11, 12, 100].into();
     assert!(outcomes.is_superset(&wanted), "{outcomes:?}");
     assert!(spare > 500 && among_others > 200, "{spare} {among_others}");

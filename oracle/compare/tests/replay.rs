@@ -3,7 +3,8 @@
 
 use compare::calls::{all, equal, same, READING};
 use compare::replay::{numbers, record, words, write, MAGIC};
-use compare::Lists;
+use compare::{Lent, Lists};
+use reading::{HIT_NUMBERS, WALK_TOLD};
 
 const STORED: &[u8] = include_bytes!("../../../crates/replay/data/answers.bin");
 
@@ -53,54 +54,48 @@ fn build(r: &mut Reader) {
     assert_eq!(links, r.words(l));
 }
 
-fn tree(r: &mut Reader) -> (Vec<f64>, Lists) {
+/// A mesh, its materials, and a tree.
+fn tree(r: &mut Reader) -> (Vec<f64>, Vec<u32>, Lists) {
     let [t, i, b, l] = [0; 4].map(|_: u32| r.word() as usize);
     let mesh = r.numbers(t);
+    let m = r.word() as usize;
+    let materials = r.words(m);
     let lists = Lists {
         index: r.words(i),
         boxes: r.numbers(b),
         links: r.words(l),
     };
-    (mesh, lists)
+    (mesh, materials, lists)
+}
+
+fn lent((mesh, materials, lists): &(Vec<f64>, Vec<u32>, Lists)) -> Lent<'_> {
+    Lent {
+        mesh,
+        materials,
+        lists,
+    }
 }
 
 fn sky(r: &mut Reader) {
-    let (mesh, lists) = tree(r);
+    let tree = tree(r);
     let [y, t, o] = [0; 3].map(|_: u32| r.word() as usize);
     let (rays, mut times) = (r.numbers(y), r.numbers(t));
     let (mut told, mut at) = (r.longs(o), [u64::MAX]);
-    let number = (READING.sky)(
-        &mesh,
-        &lists.index,
-        &lists.boxes,
-        &lists.links,
-        &rays,
-        &mut times,
-        &mut told,
-        &mut at,
-    );
+    let number = READING.sky_lent(lent(&tree), &rays, &mut times, &mut told, &mut at);
     assert_eq!((number, at), (r.word(), r.told()));
     assert!(all(&times, &r.numbers(t), same));
     assert_eq!(told, r.longs(o));
 }
 
 fn walk(r: &mut Reader) -> u32 {
-    let (mesh, lists) = tree(r);
+    let tree = tree(r);
     let rays = r.word();
     for _ in 0..rays {
         let ray = r.record();
-        let (mut numbers, mut told) = (record(), [0; 4]);
-        let answer = (READING.walk)(
-            &mesh,
-            &lists.index,
-            &lists.boxes,
-            &lists.links,
-            &ray,
-            &mut numbers,
-            &mut told,
-        );
+        let (mut numbers, mut told) = (record(), [0; WALK_TOLD]);
+        let answer = READING.walk_lent(lent(&tree), &ray, &mut numbers, &mut told);
         assert_eq!(answer, r.word());
-        assert!(all(&numbers, &r.numbers(7), same));
+        assert!(all(&numbers, &r.numbers(HIT_NUMBERS), same));
         assert_eq!(told, r.told());
     }
     rays
@@ -130,7 +125,7 @@ fn reads_from_front_to_back() {
             [4] => {
                 let (t, ray, mut numbers) = (r.record(), r.record(), record());
                 assert_eq!((READING.triangle)(&t, &ray, &mut numbers), r.word());
-                assert!(all(&numbers, &r.numbers(7), same));
+                assert!(all(&numbers, &r.numbers(HIT_NUMBERS), same));
             }
             [5] => sky(&mut r),
             [kind] => panic!("kind {kind}"),
@@ -138,10 +133,10 @@ fn reads_from_front_to_back() {
     }
     assert!(r.0.is_empty());
     assert_eq!(answers.values().sum::<u32>(), compared);
-    for number in [0, 1, 5, 7, 8, 9, 10, 11, 12, 100] {
+    for number in [0, 1, 5, 7, 8, 9, 10, 11, 12, 18, 100] {
         assert!(answers.contains_key(&("walk", number)), "walk {number}");
     }
-    for number in [0, 1, 13, 14] {
+    for number in [0, 1, 13, 14, 18] {
         assert!(answers.contains_key(&("sky", number)), "sky {number}");
     }
     for number in [0, 1, 3, 4, 5, 6] {

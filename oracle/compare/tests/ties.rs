@@ -2,10 +2,11 @@
 
 use compare::calls::READING;
 use compare::random::Random;
-use compare::{meshes, rays, ties, world};
+use compare::{meshes, rays, ties, world, Lent};
 use published::builder::BvhNode;
 use published::counts::intersect_blas_counted;
 use published::scene::intersect_blas;
+use reading::{HIT_NUMBERS, WALK_TOLD};
 
 #[test]
 fn five_triangles_show_it() {
@@ -17,18 +18,15 @@ fn five_triangles_show_it() {
     let rust = intersect_blas(&ray, &tree.nodes, &triangles, &tree.indices, 0).unwrap();
     let kept = intersect_blas_counted(&ray, &tree.nodes, &triangles, &tree.indices).0;
     assert_eq!((rust.t, kept.unwrap().surface_index), (5., 1));
-    let lists = tree.lists();
-    let (mut numbers, mut told) = ([0.; 7], [0; 4]);
-    let answer = (READING.walk)(
-        &mesh,
-        &lists.index,
-        &lists.boxes,
-        &lists.links,
-        &lent_ray,
-        &mut numbers,
-        &mut told,
-    );
-    assert_eq!((answer, numbers[0], told[0]), (100, 5., 0));
+    let lent = Lent {
+        mesh: &mesh,
+        materials: &[70, 71, 72, 73, 74],
+        lists: &tree.lists(),
+    };
+    let (mut numbers, mut told) = ([0.; HIT_NUMBERS], [0; WALK_TOLD]);
+    let answer = READING.walk_lent(lent, &lent_ray, &mut numbers, &mut told);
+    assert_eq!((answer, numbers[0]), (100, 5.));
+    assert_eq!((told[0], told[4]), (0, 70));
 }
 
 /// Up to four triangles are one leaf, its list in ascending order: no tie there

@@ -2,6 +2,7 @@
 
 use crate::walk::Answer;
 use crate::{boxes, builder, normals as refill, sky as skies, triangles, walk as walker};
+use crate::{Numbers, Told};
 
 pub fn build(
     triangles: &[f64],
@@ -22,32 +23,35 @@ pub fn build(
     }
 }
 
+#[allow(clippy::too_many_arguments)]
 pub fn walk(
     triangles: &[f64],
+    materials: &[u32],
     index: &[u32],
     boxes: &[f64],
     links: &[u32],
     ray: &[f64; 6],
-    numbers: &mut [f64; 7],
-    told: &mut [u64; 4],
+    numbers: &mut Numbers,
+    told: &mut Told,
 ) -> u32 {
-    match walker::walk(triangles, index, boxes, links, ray) {
-        Ok(Answer::Hit(met, i, counts)) => {
-            *numbers = met.numbers;
+    match walker::walk(triangles, materials, index, boxes, links, ray) {
+        Ok(Answer::Hit(hit, counts)) => {
+            *numbers = hit.met.numbers;
             *told = [
-                u64::from(i),
-                u64::from(met.front),
+                u64::from(hit.triangle),
+                u64::from(hit.met.front),
                 counts.boxes,
                 counts.triangles,
+                u64::from(hit.material),
             ];
             100
         }
         Ok(Answer::Miss(counts)) => {
-            *told = [0, 0, counts.boxes, counts.triangles];
+            *told = [0, 0, counts.boxes, counts.triangles, 0];
             0
         }
         Err(refusal) => {
-            *told = [refusal.at, 0, 0, 0];
+            *told = [refusal.at, 0, 0, 0, 0];
             refusal.number
         }
     }
@@ -56,6 +60,7 @@ pub fn walk(
 #[allow(clippy::too_many_arguments)]
 pub fn sky(
     triangles: &[f64],
+    materials: &[u32],
     index: &[u32],
     boxes: &[f64],
     links: &[u32],
@@ -64,7 +69,7 @@ pub fn sky(
     told: &mut [u64],
     at: &mut [u64; 1],
 ) -> u32 {
-    let answer = skies::sky(triangles, index, boxes, links, rays, times, told);
+    let answer = skies::sky(triangles, materials, index, boxes, links, rays, times, told);
     let (number, place) = answer.map_or_else(|refusal| (refusal.number, refusal.at), |()| (0, 0));
     *at = [place];
     number
@@ -80,7 +85,7 @@ pub fn slab(bounds: &[f64; 6], ray: &[f64; 6], times: &mut [f64; 2]) -> u32 {
     }
 }
 
-pub fn triangle(triangle: &[f64; 12], ray: &[f64; 6], numbers: &mut [f64; 7]) -> u32 {
+pub fn triangle(triangle: &[f64; 12], ray: &[f64; 6], numbers: &mut Numbers) -> u32 {
     match triangles::meet(triangle, ray) {
         Some(met) => {
             *numbers = met.numbers;

@@ -29,6 +29,19 @@ pub const REACH: f64 = (1_u64 << 40) as f64;
 /// Normals and directions reach to 2.
 pub const DIRECTION_REACH: f64 = 2.0;
 
+/// A hit's numbers: t, point, normal.
+pub const HIT_NUMBERS: usize = 7;
+/// What a walk tells: triangle, front, box tests, triangle tests, material.
+pub const WALK_TOLD: usize = 5;
+/// What a sky writes to times for each ray: t.
+pub const PLACE_TIMES: usize = 1;
+/// What a sky tells of each ray: outcome, triangle, box tests, triangle tests,
+/// material.
+pub const PLACE_TOLD: usize = 5;
+
+pub type Numbers = [f64; HIT_NUMBERS];
+pub type Told = [u64; WALK_TOLD];
+
 /// A refusal's number and its `at`.
 #[derive(Clone, Copy, Debug, PartialEq, Eq)]
 pub struct Refusal {
@@ -48,7 +61,16 @@ pub fn within(numbers: &[f64], reach: f64) -> bool {
     numbers.iter().all(|x| (-reach..=reach).contains(x))
 }
 
-/// Refusals 1 and 2, which build and walk share; then n.
+/// Refusals 1, 2 and 18, which a walk and a sky share; then n.
+pub fn mesh_count(triangles: &[f64], materials: &[u32]) -> Result<usize, Refusal> {
+    let n = triangle_count(triangles)?;
+    if materials.len() != n {
+        return refuse(18, 0);
+    }
+    Ok(n)
+}
+
+/// Refusals 1 and 2, with which every call over triangles begins; then n.
 pub fn triangle_count(triangles: &[f64]) -> Result<usize, Refusal> {
     if triangles.len() % 12 != 0 {
         return refuse(1, 0);

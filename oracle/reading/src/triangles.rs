@@ -1,7 +1,7 @@
 //! Rules T of docs/RULES.md: triangles.
 
 use crate::boxes::{grow, Bounds, Ray, EMPTY};
-use crate::{within, DIRECTION_REACH, REACH};
+use crate::{within, Numbers, DIRECTION_REACH, REACH};
 
 /// v0, v1, v2, normal.
 pub type Triangle = [f64; 12];
@@ -10,7 +10,7 @@ pub(crate) type Vec3 = [f64; 3];
 /// A triangle that a ray meets: t, point, normal as they are handed back.
 #[derive(Clone, Copy, Debug, PartialEq)]
 pub struct Met {
-    pub numbers: [f64; 7],
+    pub numbers: Numbers,
     pub front: bool,
 }
 

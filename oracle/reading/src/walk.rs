@@ -3,7 +3,7 @@
 
 use crate::boxes::{slab, usable, Bounds, Ray};
 use crate::triangles::{admitted, meet, ray_admitted, triangle, Met};
-use crate::{refuse, triangle_count, Refusal, MOST_NODES, MOST_PENDING};
+use crate::{mesh_count, refuse, Refusal, MOST_NODES, MOST_PENDING};
 
 /// Box tests and triangle tests.
 #[derive(Clone, Copy, Debug, Default, PartialEq, Eq)]
@@ -12,10 +12,17 @@ pub struct Counts {
     pub triangles: u64,
 }
 
-/// A hit carries the triangle's number.
+/// A hit carries the triangle's number and its material.
+#[derive(Clone, Copy, Debug, PartialEq)]
+pub struct Hit {
+    pub met: Met,
+    pub triangle: u32,
+    pub material: u32,
+}
+
 #[derive(Clone, Copy, Debug, PartialEq)]
 pub enum Answer {
-    Hit(Met, u32, Counts),
+    Hit(Hit, Counts),
     Miss(Counts),
 }
 
@@ -29,12 +36,13 @@ struct Lent<'a> {
 
 pub fn walk(
     triangles: &[f64],
+    materials: &[u32],
     index: &[u32],
     boxes: &[f64],
     links: &[u32],
     ray: &Ray,
 ) -> Result<Answer, Refusal> {
-    let n = triangle_count(triangles)?;
+    let n = mesh_count(triangles, materials)?;
     if !ray_admitted(ray) {
         return refuse(7, 0);
     }
@@ -50,13 +58,28 @@ pub fn walk(
         boxes,
         links,
     };
-    steps(&lent, nodes, ray)
+    let (best, counts) = steps(&lent, nodes, ray)?;
+    Ok(match best {
+        Some((met, triangle)) => {
+            let material = materials[triangle as usize];
+            let hit = Hit {
+                met,
+                triangle,
+                material,
+            };
+            Answer::Hit(hit, counts)
+        }
+        None => Answer::Miss(counts),
+    })
 }
 
-fn steps(lent: &Lent, nodes: usize, ray: &Ray) -> Result<Answer, Refusal> {
+/// The nearest, with its triangle's number.
+type Best = Option<(Met, u32)>;
+
+fn steps(lent: &Lent, nodes: usize, ray: &Ray) -> Result<(Best, Counts), Refusal> {
     let mut pending = vec![0_usize];
     let mut counts = Counts::default();
-    let mut best: Option<(Met, u32)> = None;
+    let mut best: Best = None;
     while let Some(node) = pending.pop() {
         if counts.boxes == nodes as u64 {
             return refuse(12, node);
@@ -83,10 +106,7 @@ fn steps(lent: &Lent, nodes: usize, ray: &Ray) -> Result<Answer, Refusal> {
         }
         pending.extend([left + 1, left]);
     }
-    Ok(match best {
-        Some((met, i)) => Answer::Hit(met, i, counts),
-        None => Answer::Miss(counts),
-    })
+    Ok((best, counts))
 }
 
 fn leaf(
@@ -96,7 +116,7 @@ fn leaf(
     count: u32,
     ray: &Ray,
     counts: &mut Counts,
-    best: &mut Option<(Met, u32)>,
+    best: &mut Best,
 ) -> Result<(), Refusal> {
     let (first, count) = (first as usize, count as usize);
     if first + count > lent.index.len() {

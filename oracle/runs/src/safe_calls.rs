@@ -6,25 +6,25 @@ use std::num::NonZeroUsize;
 use compare::random::Random;
 use compare::{meshes, rays};
 use pigeonmast::{raw, refill_normals, Bvh, Place, Ray, Refusal, Triangle, Walk};
+use reading::{Numbers, Told, HIT_NUMBERS, WALK_TOLD};
 
-fn told(answer: Result<Walk, Refusal>) -> (u32, [u64; 4], [f64; 7]) {
+fn told(answer: Result<Walk, Refusal>) -> (u32, Told, Numbers) {
+    const NONE: Numbers = [0.0; HIT_NUMBERS];
     let walk = match answer {
         Ok(walk) => walk,
-        Err(refusal) => return (refusal.number(), [refusal.at(), 0, 0, 0], [0.0; 7]),
+        Err(refusal) => return (refusal.number(), [refusal.at(), 0, 0, 0, 0], NONE),
     };
     let counts = [walk.box_tests, walk.triangle_tests];
     match walk.hit {
-        None => (0, [0, 0, counts[0], counts[1]], [0.0; 7]),
+        None => (0, [0, 0, counts[0], counts[1], 0], NONE),
         Some(h) => {
             let [px, py, pz]: [f64; 3] = h.point.into();
             let [nx, ny, nz]: [f64; 3] = h.normal.into();
             let front = u64::from(h.is_front_face);
             let numbers = [h.t, px, py, pz, nx, ny, nz];
-            (
-                raw::HIT,
-                [h.triangle as u64, front, counts[0], counts[1]],
-                numbers,
-            )
+            let (triangle, material) = (h.triangle as u64, u64::from(h.material));
+            let told = [triangle, front, counts[0], counts[1], material];
+            (raw::HIT, told, numbers)
         }
     }
 }
@@ -79,13 +79,25 @@ fn one(seed: u64) -> Result<u64, String> {
         (Ok(bvh), Ok(w)) if (bvh.node_count(), bvh.leaf_count()) == (w.nodes, w.leaves) => bvh,
         (got, wanted) => return Err(format!("Bvh::from_numbers {got:?}, the reading {wanted:?}")),
     };
+    // 0 for each, or given.
+    let (bvh, materials) = if r.one_in(3) {
+        (bvh, vec![0; mesh.len() / 12])
+    } else {
+        let given = meshes::materials(r.bits(), mesh.len() / 12);
+        let with = bvh.with_materials(given.clone());
+        (
+            with.map_err(|why| format!("Bvh::with_materials: {why}"))?,
+            given,
+        )
+    };
     let nodes = bvh.node_count();
     let (mut lent_rays, mut singles) = (Vec::new(), Vec::new());
     for k in 0..8 {
         let ray = rays::KINDS[r.below(rays::KINDS.len())].1(&mut r, &mesh);
-        let (mut numbers, mut wanted_told) = ([0.0; 7], [0; 4]);
+        let (mut numbers, mut wanted_told) = ([0.0; HIT_NUMBERS], [0; WALK_TOLD]);
         let number = reading::calls::walk(
             &mesh,
+            &materials,
             &index,
             &boxes[..6 * nodes],
             &links[..3 * nodes],
@@ -108,14 +120,14 @@ fn one(seed: u64) -> Result<u64, String> {
         .map_err(|why| format!("Bvh::sky: {why}"))?;
     let of_place = |p: Place| {
         (
-            p.hit.map(|h| (h.triangle, h.t)),
+            p.hit.map(|h| (h.triangle, h.t, h.material)),
             p.box_tests,
             p.triangle_tests,
         )
     };
     let of_walk = |w: Walk| {
         (
-            w.hit.map(|h| (h.triangle, h.t)),
+            w.hit.map(|h| (h.triangle, h.t, h.material)),
             w.box_tests,
             w.triangle_tests,
         )

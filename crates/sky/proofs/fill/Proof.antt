@@ -13,7 +13,7 @@ use Rattle.sky.proofs.fill.Statement.{statement}
 use Rattle.sky.proofs.fill.Tie as tie
 
 abbrev Inv-loop : tie.InvT-loop
-Inv-loop triangles materials index boxes links rays n times₀ told₀ k₀ times told k = (k ≤ n) × (length times ≡ length times₀) × (length told ≡ length told₀) × (times ≡ records (timesFor (lent triangles materials index boxes links) rays) k ++ drop k times₀) × (told ≡ records (toldFor (lent triangles materials index boxes links) rays) k ++ drop (k * 5) told₀)
+Inv-loop triangles materials index boxes links rays n times₀ told₀ k₀ times told k = (k ≤ n) × (length times ≡ length times₀) × (length told ≡ length told₀) × (times ≡ records (timesFor (lent triangles materials index boxes links) rays) k ++ drop (k * 3) times₀) × (told ≡ records (toldFor (lent triangles materials index boxes links) rays) k ++ drop (k * 5) told₀)
 
 abbrev μ-loop : tie.MeasureT-loop
 μ-loop triangles materials index boxes links rays n times₀ told₀ k₀ times told k = n - k
@@ -57,7 +57,7 @@ returns c =
     let a = c .before .before .before .before .before .before .before .before .before .before .args in
     let s = lent (a .triangles .now) (a .materials .now) (a .index .now) (a .boxes .now) (a .links .now) in
     let e : l .k ≡ a .n = omega (arith, l .inv .0, c .loop-test .left) in (
-      l .inv .3 ∙ ap (λ (j : ℕ). records (timesFor s (a .rays .now)) j ++ drop j (a .times .now)) e,
+      l .inv .3 ∙ ap (λ (j : ℕ). records (timesFor s (a .rays .now)) j ++ drop (j * 3) (a .times .now)) e,
       l .inv .4 ∙ ap (λ (j : ℕ). records (toldFor s (a .rays .now)) j ++ drop (j * 5) (a .told .now)) e,
     )
 

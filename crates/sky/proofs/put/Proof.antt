@@ -1,4 +1,4 @@
--- Six stores, in the definition's order. Assumes nothing.
+-- Eight stores, in the definition's order. Assumes nothing.
 use mathlib.Core.Path.{refl}
 use native.Mathlib.Omega.{arith}
 use lib.ListN.{length-set}
@@ -6,6 +6,12 @@ use Rattle.lent.proofs.Flat.{written}
 use borrow.Author.Needs.{needs}
 use Rattle.sky.proofs.put.Statement.{statement}
 use Rattle.sky.proofs.put.Tie as tie
+
+slice-write-times-2 : tie.Need-slice-write-times-2
+slice-write-times-2 c = simp length-set (omega arith)
+
+slice-write-times-3 : tie.Need-slice-write-times-3
+slice-write-times-3 c = simp length-set (omega arith)
 
 slice-write-told-2 : tie.Need-slice-write-told-2
 slice-write-told-2 c = simp length-set (omega arith)
@@ -26,13 +32,17 @@ same-length-2 : tie.Need-same-length-2
 same-length-2 c = simp length-set
 
 returns : tie.Need-returns
-returns c = (refl, written 5 _ _ _ _)
+returns c = (written 3 _ _ _ _, written 5 _ _ _ _)
 
 pub put-spec : {M : Type 1} → statement M
 put-spec =
     tie.close
     (tie.spec
-    (λ c. search needs) (λ c. search needs) (λ c. search needs) (λ c. search needs) (λ c. search needs) (λ c. search needs) (λ c. search needs)
+    (λ c. search needs) (λ c. search needs) (λ c. search needs) (λ c. search needs) (λ c. search needs) (λ c. search needs)
+    slice-write-times-2
+    (λ c. search needs) (λ c. search needs)
+    slice-write-times-3
+    (λ c. search needs) (λ c. search needs) (λ c. search needs) (λ c. search needs)
     slice-write-told-2
     (λ c. search needs) (λ c. search needs)
     slice-write-told-3

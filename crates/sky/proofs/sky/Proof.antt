@@ -78,6 +78,7 @@ sky-spec =
     returns-2
     returns-3
     returns-4
+    (λ c. search needs)
     returns-5
     (λ c. search needs)
     returns-6

@@ -106,6 +106,7 @@ fn compare_on(name: &str, mesh: &[f64], rays: usize, r: &mut Random) {
     lists.boxes.truncate(6 * nodes);
     lists.links.truncate(3 * nodes);
     let tree = world::build_ordered(&triangles).0;
+    let materials = meshes::materials(1, n);
     let lent = mixed(r, mesh, rays);
     let given: Vec<Ray> = lent.iter().map(world::ray).collect();
     let (mut hits, mut ours) = (0_u64, 0_u64);
@@ -120,10 +121,11 @@ fn compare_on(name: &str, mesh: &[f64], rays: usize, r: &mut Random) {
         },
         || {
             ours = 0;
-            let (mut numbers, mut told) = ([0.0; 7], [0; 4]);
+            let (mut numbers, mut told) = ([0.0; raw::HIT_NUMBERS], [0; raw::WALK_TOLD]);
             for ray in &lent {
                 let number = raw::walk(
                     mesh,
+                    &materials,
                     &lists.index,
                     &lists.boxes,
                     &lists.links,
@@ -147,20 +149,28 @@ fn compare_on(name: &str, mesh: &[f64], rays: usize, r: &mut Random) {
     }
 }
 
+/// The answer room of a panel's rays.
+fn sky_room() -> (Vec<f64>, Vec<u64>) {
+    let (times, told) = (raw::PLACE_TIMES * SKY, raw::PLACE_TOLD * SKY);
+    (vec![0.0; times], vec![0; told])
+}
+
 /// A panel's rays, as single calls and as one call.
 fn sky_on(name: &str, mesh: &[f64], r: &mut Random) {
     let n = mesh.len() / 12;
     let lists = built(mesh, r);
     let lent = mixed(r, mesh, SKY);
-    let (mut singles, mut told) = (vec![[0; 4]; SKY], vec![0; 4 * SKY]);
-    let mut times = vec![0.0; SKY];
+    let materials = meshes::materials(1, n);
+    let mut singles = vec![[0; raw::WALK_TOLD]; SKY];
+    let (mut times, mut told) = sky_room();
     let walked = least(
         RUNS,
         || {
-            let mut numbers = [0.0; 7];
+            let mut numbers = [0.0; raw::HIT_NUMBERS];
             for (ray, told) in lent.iter().zip(&mut singles) {
                 let number = raw::walk(
                     mesh,
+                    &materials,
                     &lists.index,
                     &lists.boxes,
                     &lists.links,
@@ -174,6 +184,7 @@ fn sky_on(name: &str, mesh: &[f64], r: &mut Random) {
         || {
             let number = raw::sky(
                 mesh,
+                &materials,
                 &lists.index,
                 &lists.boxes,
                 &lists.links,
@@ -193,7 +204,7 @@ fn sky_on(name: &str, mesh: &[f64], r: &mut Random) {
     let tests = |told: &[u64]| [told[2], told[3]];
     if !singles
         .iter()
-        .zip(told.chunks_exact(4))
+        .zip(told.chunks_exact(raw::PLACE_TOLD))
         .all(|(one, place)| tests(one) == tests(place))
     {
         stop("speed: one call and single calls differ: run the differential");
@@ -254,6 +265,7 @@ fn refill_on(name: &str, mesh: &[f64]) {
 /// rays of the first table.
 fn growth_on(n: usize, r: &mut Random) {
     let mesh = meshes::terrain(r, n);
+    let materials = meshes::materials(1, mesh.len() / 12);
     let lists = built(&mesh, r);
     let sun: Vec<[f64; 6]> = (0..SKY)
         .map(|_| {
@@ -264,9 +276,10 @@ fn growth_on(n: usize, r: &mut Random) {
         .collect();
     let mixed = mixed(r, &mesh, SKY);
     let mean = |lent: &[[f64; 6]]| {
-        let (mut times, mut told) = (vec![0.0; SKY], vec![0; 4 * SKY]);
+        let (mut times, mut told) = sky_room();
         let number = raw::sky(
             &mesh,
+            &materials,
             &lists.index,
             &lists.boxes,
             &lists.links,
@@ -278,7 +291,7 @@ fn growth_on(n: usize, r: &mut Random) {
         if number != 0 {
             stop(&format!("speed: the sky is refused: {number}"));
         }
-        told.chunks_exact(4)
+        told.chunks_exact(raw::PLACE_TOLD)
             .map(|place| place[2] as f64)
             .sum::<f64>()
             / SKY as f64
