@@ -60,18 +60,12 @@ pub fn make(
     if index.len() < m {
         return Built::Refused { number: 3, at: 0 };
     }
-    let room = builder::room(m as u32);
-    if boxes.len() / 6 < room {
-        return Built::Refused {
-            number: 4,
-            at: room,
-        };
+    let all = builder::room(m as u32);
+    if boxes.len() / 6 < all {
+        return Built::Refused { number: 4, at: all };
     }
-    if links.len() / 3 < room {
-        return Built::Refused {
-            number: 4,
-            at: room,
-        };
+    if links.len() / 3 < all {
+        return Built::Refused { number: 4, at: all };
     }
     raise(matrices, root, proxies, index, boxes, links, m)
 }
