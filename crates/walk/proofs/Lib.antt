@@ -1,4 +1,5 @@
 mod PendingList
+pub mod AnySteps
 pub mod OneMesh
 mod Entries
 pub mod VisitEnds
