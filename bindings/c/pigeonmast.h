@@ -75,7 +75,9 @@ enum pigeonmast_refusal {
     PIGEONMAST_TOO_MANY_BOX_TESTS = 12,    /* more than there are nodes; at: the next node */
     PIGEONMAST_ANSWER_ROOM = 13,           /* times or told too short */
     PIGEONMAST_RAY_NUMBERS = 14,           /* rays not in sixes */
-    PIGEONMAST_MATERIAL_LIST = 18          /* materials not one for each triangle */
+    PIGEONMAST_MATERIAL_LIST = 18,         /* materials not one for each triangle */
+    PIGEONMAST_WEIGHTS_DIFFER = 27,        /* not one weight a ray */
+    PIGEONMAST_TOO_MANY_RAYS = 28          /* more than 1,048,576 to be weighed */
 };
 
 /* The form of the calls that the library has: PIGEONMAST_ABI. */
@@ -158,6 +160,30 @@ void pigeonmast_new(const double corners[9], double triangle[12]);
  * is. */
 uint32_t pigeonmast_normals(double *triangles, size_t triangles_len,
                             uint64_t told[1]);
+
+/* Walks the tree with every ray as pigeonmast_sky does, into the same times and
+ * told, and weighs it: weights has its watts, one number a ray.
+ * Answers 0 with at = 0 and report = shaded watts (hits), open watts (misses),
+ * refused watts, total watts, and shaded over shaded and open together in lowest
+ * terms: above, below; 0, 1 where those are 0. Or answers the refusal of the
+ * whole call, with its at: pigeonmast_sky's, in its order, then 27, then 28;
+ * report, times and told stay unchanged. Of rays that are cut into parts the
+ * first four of the reports add up to those of the whole. */
+uint32_t pigeonmast_watts(const double *triangles, size_t triangles_len,
+                          const uint32_t *materials, size_t materials_len,
+                          const uint32_t *index, size_t index_len,
+                          const double *boxes, size_t boxes_len,
+                          const uint32_t *links, size_t links_len,
+                          const double *rays, size_t rays_len,
+                          const uint32_t *weights, size_t weights_len,
+                          double *times, size_t times_len,
+                          uint64_t *told, size_t told_len,
+                          uint64_t report[6], uint64_t at[1]);
+
+/* The share that added watts give: share = above, below of shaded over shaded and
+ * open together, in lowest terms; 0, 1 where both are 0; 0, 0 just where the
+ * lower number would pass 64 bits. Answers 0, on any two numbers. */
+uint32_t pigeonmast_share(uint64_t shaded, uint64_t open, uint64_t share[2]);
 
 #ifdef __cplusplus
 }

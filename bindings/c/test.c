@@ -100,5 +100,31 @@ int main(void)
     ANSWERS(pigeonmast_normals(mesh, 60, at), 0);
     HOLDS(at, 0);
     HOLDS(mesh, 0, 0, 0, 3, 0, 0, 0, 3, 0, 0, 0, 1, 16, 0, 0, 19, 0, 0, 16, 3, 0, 0, 0, 1);
+
+    /* A14: the watts of a sky, and the share of watts that were added. */
+    const uint32_t weights[3] = {600, 400, 50};
+    const double three[18] = {17, 1, 1, 0, 0, -1, 25, 1, 1, 0, 0, -1, 17, 1, 1, 0, 0, -3}; /* P11, P12, refused 7 */
+    double spots[9] = {9};
+    uint64_t report[6] = {9, 9, 9, 9, 9, 9}, room[15] = {9}, share[2];
+#define WATTS(n, m, k) pigeonmast_watts(TREE, three, n, weights, m, spots, k, room, 15, report, at)
+    ANSWERS(WATTS(17, 2, 0), PIGEONMAST_RAY_NUMBERS);
+    ANSWERS(WATTS(18, 2, 2), PIGEONMAST_ANSWER_ROOM);
+    ANSWERS(WATTS(18, 2, 9), PIGEONMAST_WEIGHTS_DIFFER);
+    HOLDS(report, 9, 9, 9, 9, 9, 9);
+    HOLDS(spots, 9);
+    HOLDS(room, 9);
+    HOLDS(at, 0);
+    at[0] = 9;
+    ANSWERS(WATTS(18, 3, 9), 0);
+    HOLDS(report, 600, 400, 50, 1050, 3, 5);
+    HOLDS(spots, 1);
+    HOLDS(room, PIGEONMAST_HIT, 1, 3, 2, 31, 0, 0, 3, 0, 0, PIGEONMAST_RAY_NOT_ADMITTED, 0, 0, 0, 0);
+    HOLDS(at, 0);
+    ANSWERS(pigeonmast_share(0, 0, share), 0);
+    HOLDS(share, 0, 1);
+    ANSWERS(pigeonmast_share(UINT64_MAX, UINT64_MAX, share), 0);
+    HOLDS(share, 1, 2);
+    ANSWERS(pigeonmast_share(UINT64_MAX, 1, share), 0);
+    HOLDS(share, 0, 0);
     return differ;
 }

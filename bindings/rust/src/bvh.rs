@@ -1,7 +1,7 @@
 use std::num::NonZeroUsize;
 use std::thread;
 
-use crate::{raw, Aabb, HitRecord, Ray, Refusal, Triangle};
+use crate::{raw, Aabb, HitRecord, Ray, Refusal, Report, Triangle, Watts};
 
 /// A tree with the triangles it was built of. It is plain data: clone it, send it
 /// to another thread, walk it from many.
@@ -86,6 +86,12 @@ impl Place {
             box_tests: told[2],
             triangle_tests: told[3],
         })
+    }
+
+    fn all(times: &[f64], told: &[u64]) -> Vec<Result<Self, Refusal>> {
+        let places = times.chunks_exact(raw::PLACE_TIMES);
+        let places = places.zip(told.chunks_exact(raw::PLACE_TOLD));
+        places.map(|(t, told)| Self::new(t, told)).collect()
     }
 }
 
@@ -277,9 +283,60 @@ impl Bvh {
         if number != 0 {
             return Err(Refusal::new(number, at[0]));
         }
-        let places = times.chunks_exact(raw::PLACE_TIMES);
-        let places = places.zip(told.chunks_exact(raw::PLACE_TOLD));
-        Ok(places.map(|(t, told)| Place::new(t, told)).collect())
+        Ok(Place::all(&times, &told))
+    }
+
+    /// Walks the tree with many rays as [`Bvh::sky`] does, and weighs each: the
+    /// watts that are shaded, open and refused, besides the places.
+    ///
+    /// # Errors
+    ///
+    /// Those of [`Bvh::sky`]; then [`Refusal::WeightsDiffer`], and
+    /// [`Refusal::TooManyRays`] above 1,048,576.
+    ///
+    /// ```
+    /// use pigeonmast::{Bvh, Ray};
+    /// let t = vec![0.0, 0.0, 0.0, 1.0, 0.0, 0.0, 0.0, 1.0, 0.0, 0.0, 0.0, 1.0];
+    /// let bvh = Bvh::from_numbers(t)?;
+    /// let down = |x| Ray::from([x, 0.25, 1.0, 0.0, 0.0, -1.0]);
+    /// let rays = [down(0.25), down(f64::NAN), down(2.0)];
+    /// let watts = bvh.watts(&rays, &[600, 50, 400])?;
+    /// let report = watts.report;
+    /// assert_eq!((report.shaded, report.open, report.refused), (600, 400, 50));
+    /// assert_eq!((report.total, report.share()), (1050, Some((3, 5))));
+    /// assert_eq!(watts.places, bvh.sky(&rays)?);
+    /// # Ok::<(), pigeonmast::Refusal>(())
+    /// ```
+    pub fn watts(&self, rays: &[Ray], weights: &[u32]) -> Result<Watts, Refusal> {
+        let mut times = vec![0.0; raw::PLACE_TIMES * rays.len()];
+        let mut told = vec![0; raw::PLACE_TOLD * rays.len()];
+        let (mut figures, mut at) = ([0; 6], [0]);
+        let number = raw::watts(
+            &self.triangles,
+            &self.materials,
+            &self.index,
+            &self.boxes,
+            &self.links,
+            Ray::all_numbers(rays),
+            weights,
+            &mut times,
+            &mut told,
+            &mut figures,
+            &mut at,
+        );
+        if number != 0 {
+            return Err(Refusal::new(number, at[0]));
+        }
+        let [shaded, open, refused, total, ..] = figures;
+        Ok(Watts {
+            report: Report {
+                shaded,
+                open,
+                refused,
+                total,
+            },
+            places: Place::all(&times, &told),
+        })
     }
 
     /// As [`Bvh::sky`], with the rays dealt out to so many threads in parts that

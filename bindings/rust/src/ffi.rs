@@ -73,4 +73,29 @@ extern "C" {
         triangles_len: usize,
         told: *mut [u64; 1],
     ) -> u32;
+
+    pub fn pigeonmast_watts(
+        triangles: *const f64,
+        triangles_len: usize,
+        materials: *const u32,
+        materials_len: usize,
+        index: *const u32,
+        index_len: usize,
+        boxes: *const f64,
+        boxes_len: usize,
+        links: *const u32,
+        links_len: usize,
+        rays: *const f64,
+        rays_len: usize,
+        weights: *const u32,
+        weights_len: usize,
+        times: *mut f64,
+        times_len: usize,
+        told: *mut u64,
+        told_len: usize,
+        report: *mut [u64; 6],
+        at: *mut [u64; 1],
+    ) -> u32;
+
+    pub fn pigeonmast_share(shaded: u64, open: u64, share: *mut [u64; 2]) -> u32;
 }

@@ -28,6 +28,8 @@
 //! ```
 //!
 //! [`Bvh::sky`] walks many rays in one call, [`Bvh::sky_parallel`] on many threads.
+//! [`Bvh::watts`] weighs them too, and tells a [`Report`] of the watts that are
+//! shaded.
 //!
 //! `material_id` stands not in a [`Triangle`] but beside it: [`Bvh::with_materials`]
 //! gives each triangle one, and every hit tells the material that was struck.
@@ -49,9 +51,11 @@ pub mod raw;
 mod refusal;
 mod triangle;
 mod vector;
+mod watts;
 
 pub use aabb::{ray_aabb_slab_test, Aabb};
 pub use bvh::{build_bvh, Bvh, BvhNode, Place, PlaceHit, Walk};
 pub use refusal::Refusal;
 pub use triangle::{refill_normals, HitRecord, Triangle};
 pub use vector::{Ray, Vec3};
+pub use watts::{Report, Watts};

@@ -240,3 +240,80 @@ pub fn normals(triangles: &mut [f64], told: &mut [u64; 1]) -> u32 {
     // SAFETY: as in `build`.
     unsafe { ffi::pigeonmast_normals(triangles.as_mut_ptr(), triangles.len(), told) }
 }
+
+/// Walks a tree with every ray as [`sky`] does, and weighs it: `weights` has its
+/// watts, one number a ray.
+///
+/// Answers 0 with `at` = 0, `times` and `told` as [`sky`] fills them, and
+/// `report` = shaded, open, refused and total watts, then shaded over shaded and
+/// open together in lowest terms: above, below. Or the refusal of the whole call,
+/// with its `at`: that of [`sky`], 27 or 28; `report`, `times` and `told` stay
+/// unchanged.
+///
+/// ```
+/// use pigeonmast::raw;
+/// let (mut times, mut told) = ([9.0; raw::PLACE_TIMES], [9; raw::PLACE_TOLD]);
+/// let (mut report, mut at) = ([9; 6], [9]);
+/// // No nodes at all: each ray is refused, by 8.
+/// let rays = [0.0, 0.0, 0.0, 0.0, 0.0, 1.0];
+/// let watts = [40];
+/// let answer = raw::watts(
+///     &[], &[], &[], &[], &[], &rays, &watts, &mut times, &mut told, &mut report, &mut at,
+/// );
+/// assert_eq!((answer, at), (0, [0]));
+/// assert_eq!(report, [0, 0, 40, 40, 0, 1]);
+/// ```
+#[allow(clippy::too_many_arguments)]
+pub fn watts(
+    triangles: &[f64],
+    materials: &[u32],
+    index: &[u32],
+    boxes: &[f64],
+    links: &[u32],
+    rays: &[f64],
+    weights: &[u32],
+    times: &mut [f64],
+    told: &mut [u64],
+    report: &mut [u64; 6],
+    at: &mut [u64; 1],
+) -> u32 {
+    // SAFETY: as in `build`.
+    unsafe {
+        ffi::pigeonmast_watts(
+            triangles.as_ptr(),
+            triangles.len(),
+            materials.as_ptr(),
+            materials.len(),
+            index.as_ptr(),
+            index.len(),
+            boxes.as_ptr(),
+            boxes.len(),
+            links.as_ptr(),
+            links.len(),
+            rays.as_ptr(),
+            rays.len(),
+            weights.as_ptr(),
+            weights.len(),
+            times.as_mut_ptr(),
+            times.len(),
+            told.as_mut_ptr(),
+            told.len(),
+            report,
+            at,
+        )
+    }
+}
+
+/// The share that added figures give: `share` = above, below of shaded over
+/// shaded and open together, in lowest terms; 0, 1 where both are 0; 0, 0 just
+/// where the lower number would pass 64 bits. Answers 0.
+///
+/// ```
+/// let mut share = [0; 2];
+/// pigeonmast::raw::share(600, 400, &mut share);
+/// assert_eq!(share, [3, 5]);
+/// ```
+pub fn share(shaded: u64, open: u64, share: &mut [u64; 2]) -> u32 {
+    // SAFETY: an array's pointer; see the module's head.
+    unsafe { ffi::pigeonmast_share(shaded, open, share) }
+}

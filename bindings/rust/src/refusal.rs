@@ -63,6 +63,10 @@ pub enum Refusal {
     RayNumbers,
     /// 18: the materials are not one for each triangle.
     MaterialList,
+    /// 27: there are more weights than rays, or fewer.
+    WeightsDiffer,
+    /// 28: there are more than 1,048,576 rays to be weighed.
+    TooManyRays,
     /// A number that this crate does not know: the library is newer.
     Unknown {
         /// The number.
@@ -90,6 +94,8 @@ impl Refusal {
             13 => Self::AnswerRoom,
             14 => Self::RayNumbers,
             18 => Self::MaterialList,
+            27 => Self::WeightsDiffer,
+            28 => Self::TooManyRays,
             _ => Self::Unknown { number, at },
         }
     }
@@ -113,6 +119,8 @@ impl Refusal {
             Self::AnswerRoom => 13,
             Self::RayNumbers => 14,
             Self::MaterialList => 18,
+            Self::WeightsDiffer => 27,
+            Self::TooManyRays => 28,
             Self::Unknown { number, .. } => *number,
         }
     }
@@ -193,6 +201,12 @@ impl fmt::Display for Refusal {
             Self::MaterialList => {
                 f.write_str("the materials are not as many as the triangles; give one for each")
             }
+            Self::WeightsDiffer => {
+                f.write_str("weights and rays differ in number; give one weight for each ray")
+            }
+            Self::TooManyRays => f.write_str(
+                "more than 1,048,576 rays are to be weighed; divide them, and add the reports",
+            ),
             Self::Unknown { at, .. } => {
                 write!(f, "at {at}, by a number that this crate does not know; use the crate that came with the library")
             }

@@ -1,8 +1,6 @@
 -- The numbers that an answer tells fix the answer, by its cases. Assumes nothing.
-use Prim.Native.Nat.{ℕ}
-use native.Mathlib.Omega.{arith}
 use mathlib.Core.Path.{_≡_, refl, sym, ap}
-use Rattle.lent.specs.Ladder.{none, numbered}
+use Rattle.lent.proofs.Ladder.{apart}
 use Rattle.triangle.specs.declared.normals.Refill.{Refill}
 use Rattle.triangle.specs.declared.normals.Refill.the-variants.{Done, Refused as Unrefilled}
 use Rattle.triangle.specs.Refilled.{refillRefusal}
@@ -12,9 +10,6 @@ use Rattle.builder.specs.Reply.{Reply, reply}
 use Rattle.sky.specs.declared.Filled.{Filled}
 use Rattle.sky.specs.declared.Filled.the-variants.{Places, Refused as Unfilled}
 use Rattle.sky.specs.Sky.{skyRefusal}
-
-apart : {A : Type 0} (number at : ℕ) → none ≡ numbered number at → A
-apart number at e = absurd (let z : _≡_ {A = ℕ} 0 1 = cc in omega arith)
 
 pub refill-told : (a b : Refill) → refillRefusal a ≡ refillRefusal b → a ≡ b
 unfolding refillRefusal

@@ -18,6 +18,8 @@ use Rattle.walk.specs.Answer.{Told, told}
 use Rattle.sky.specs.declared.Filled.{Filled}
 use Rattle.sky.specs.Sky.{skyRefusal, Filling, filling}
 use Rattle.street.specs.Making.{Outcome as Making, outcome as making}
+use Rattle.watts.specs.declared.Counted.{Counted}
+use Rattle.watts.specs.Watts.{Outcome as Weighing}
 use Rattle.demands.proofs.Answers.{refill-told, build-told, sky-told}
 use Rattle.float.proofs.infinity.Reads as float-infinity
 use Rattle.float.proofs.magnitude.Reads as float-magnitude
@@ -95,6 +97,7 @@ use Rattle.builder.proofs.build.Reads as builder-build
 use Rattle.builder.proofs.room.Reads as builder-room
 use Rattle.builder.proofs.clear_floats.Reads as builder-clear-floats
 use Rattle.walk.proofs.walk.Reads as walk-walk
+use Rattle.sky.proofs.judge.Reads as sky-judge
 use Rattle.sky.proofs.sky.Reads as sky-sky
 use Rattle.street.proofs.rows.Matrix.read.Reads as matrix-read
 use Rattle.street.proofs.rows.Matrix.good.Reads as matrix-good
@@ -104,6 +107,8 @@ use Rattle.street.proofs.rows.Matrix.normal.Reads as matrix-normal
 use Rattle.street.proofs.rows.Matrix.transform_ray.Reads as matrix-transform-ray
 use Rattle.street.proofs.rows.length.Reads as rows-length
 use Rattle.street.proofs.make.Reads as street-make
+use Rattle.watts.proofs.share.Reads as watts-share
+use Rattle.watts.proofs.watts.Reads as watts-watts
 
 -- the calls of `float`
 pub float-fixed : Fixes float-infinity.Post × Fixes float-magnitude.Post × Fixes float-lesser.Post × Fixes float-greater.Post × Fixes float-lower.Post × Fixes float-higher.Post × Fixes float-minus-zero.Post × Fixes float-less-number.Post × Fixes float-total-less.Post × Fixes float-bits.Post × Fixes float-from-bits.Post × Fixes float-root.Post
@@ -158,6 +163,9 @@ told-fixes (Refused k i) (Missed b' c') p = absurd (let e = ap (λ (t : Told). t
 pub walk-fixed : Fixes walk-walk.Post
 walk-fixed = record { same = λ κs x r r' e e' p q. told-fixes r r' (p ∙ sym q) }
 
+pub judge-fixed : Fixes sky-judge.Post
+judge-fixed = record { same = λ κs x r r' e e' p q. sky-told r r' (p ∙ sym q) }
+
 -- the answer, and the answer room at the end
 sky-same : (a b : Filled) (x y : List Float) (k l : List ℕ) → filling (skyRefusal a) x k ≡ filling (skyRefusal b) y l → _≡_ {A = Filled × List Float × List ℕ} (a, x, k) (b, y, l)
 sky-same a b x y k l e = let t = sky-told a b (ap (λ (o : Filling). o .refusal) e) in λ z. (t z, e z .times, e z .told)
@@ -176,3 +184,10 @@ make-same a b i j x y k l p q e = let t = build-told a b (ap (λ (o : Making). o
 
 pub make-fixed : FixesAll street-make.Post {C = Built × List Float × List ℕ × List Float × List ℕ} (λ κs r e. (r, e .1 .1 .1 .0 .now, e .1 .1 .1 .1 .0 .now, e .1 .1 .1 .1 .1 .0 .now, e .1 .1 .1 .1 .1 .1 .0 .now))
 make-fixed κs x r r' e e' p q = make-same r r' _ _ _ _ _ _ _ _ (p ∙ sym q)
+
+pub share-fixed : Fixes watts-share.Post
+share-fixed = fixed
+
+-- the answer, and the answer room at the end
+pub watts-fixed : FixesAll watts-watts.Post {C = Counted × List Float × List ℕ} (λ κs r e. (r, e .1 .1 .1 .1 .1 .1 .1 .0 .now, e .1 .1 .1 .1 .1 .1 .1 .1 .0 .now))
+watts-fixed κs x r r' e e' p q = ap (λ (o : Weighing). (o .answer, o .times, o .told)) (p ∙ sym q)

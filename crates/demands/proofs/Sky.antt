@@ -82,7 +82,7 @@ module _ (mesh : List Float) (materials index : List ℕ) (boxes : List Float) (
       let w = built-walk mesh materials index boxes links nodes leaf-count e named in
       let W = w .accepted .walkable in
       let o = sky s rays times told in
-      let is : o .refusal ≡ none = served s rays times told (W .whole) (W .few) (labelled mesh materials index boxes links nodes leaf-count e named) sixes timed roomy in
+      let is : o .refusal ≡ none = served s rays times told (record { whole = W .whole; few = W .few; labelled = labelled mesh materials index boxes links nodes leaf-count e named; sixes = sixes; timed = timed; roomy = roomy }) in
       record {
         signed = w;
         served = is;

@@ -2,9 +2,9 @@
 -- the width. A list with a record written is its front, the record and its rest (`sets-eq` of the kit). Assumes nothing.
 use mathlib.Core.Path.{_≡_, refl, sym, ap, _∙_}
 use mathlib.Core.Logic.{_⊎_, inl, inr, ⊎-elim}
-use mathlib.Core.List.{List, [], _∷_, _++_, append-assoc}
+use mathlib.Core.List.{List, [], _∷_, _++_, append-assoc, append-nil}
 use Prim.Native.Nat.{ℕ, zero, suc, _+_, _*_, _-_, _≤_, _<_}
-use native.Mathlib.Nat.{suc-mul, zero-mul, mul-le-mul-right}
+use native.Mathlib.Nat.{add-zero, add-suc, suc-mul, zero-mul, mul-le-mul-right}
 use native.Mathlib.Numerals.{add-one}
 use native.Mathlib.Omega.{arith}
 use native.Mathlib.Decide.{ℕ-discrete, decLt}
@@ -137,3 +137,15 @@ module _ {A : Type 0} where
         where
           last : i ≡ n → p ≡ length (records f n) + k
           last s = omega (arith, records-length n, ap (λ (j : ℕ). j * width) s)
+
+  -- ---- records, cut after so many
+  pub records-same : (f g : ℕ → List A) (n : ℕ) → ((k : ℕ) → k < n → f k ≡ g k) → records f n ≡ records g n
+  unfolding records
+  records-same f g zero h = refl
+  records-same f g (suc n) h = rw (records-same f g n (λ k l. h k (omega arith)), h n (omega arith))
+
+  pub records-cut : (f : ℕ → List A) (a b : ℕ) → records f (a + b) ≡ records f a ++ records (λ k. f (a + k)) b
+  unfolding records
+  records-cut f a zero = ap (records f) (add-zero a) ∙ sym (append-nil (records f a))
+  records-cut f a (suc b) =
+      ap (records f) (add-suc a b) ∙ ap (λ (l : List A). l ++ f (a + b)) (records-cut f a b) ∙ append-assoc (records f a) (records (λ k. f (a + k)) b) (f (a + b))

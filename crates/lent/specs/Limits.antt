@@ -20,3 +20,7 @@ most-pending = 64
 -- Rule D7: the placements of a street
 abbrev pub most-placements : ℕ
 most-placements = 1024
+
+-- Rule D7: the rays of a call that weighs them
+abbrev pub most-rays : ℕ
+most-rays = 1048576

@@ -15,3 +15,6 @@ pub const MOST_PENDING: usize = 64;
 
 // Placements of a street at most.
 pub const MOST_PLACEMENTS: usize = 1024;
+
+// Rays of a call that weighs them.
+pub const MOST_RAYS: usize = 1048576;

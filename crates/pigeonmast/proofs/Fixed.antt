@@ -5,7 +5,7 @@ use mathlib.Core.List.{List}
 use lib.Ieee.{Float}
 use Rattle.lent.specs.Fixed.{Fixes, FixesAll}
 use Rattle.lent.proofs.Fixed.{fixed}
-use Rattle.pigeonmast.specs.Report.{Build, Walk, Sky, Test, Normals}
+use Rattle.pigeonmast.specs.Report.{Build, Walk, Sky, Test, Normals, Watts}
 use Rattle.pigeonmast.proofs.pigeonmast_abi.Reads as abi
 use Rattle.pigeonmast.proofs.pigeonmast_root.Reads as root
 use Rattle.pigeonmast.proofs.pigeonmast_new.Reads as new
@@ -15,6 +15,8 @@ use Rattle.pigeonmast.proofs.pigeonmast_normals.Reads as normals
 use Rattle.pigeonmast.proofs.pigeonmast_build.Reads as build
 use Rattle.pigeonmast.proofs.pigeonmast_walk.Reads as walk
 use Rattle.pigeonmast.proofs.pigeonmast_sky.Reads as sky
+use Rattle.pigeonmast.proofs.pigeonmast_watts.Reads as watts
+use Rattle.pigeonmast.proofs.pigeonmast_share.Reads as share
 
 pub abi-fixed : Fixes abi.Post
 abi-fixed = fixed
@@ -45,3 +47,10 @@ walk-fixed κs x r r' e e' p q = ap (λ (o : Walk). (o .answer, o .numbers, o .t
 -- the times, what is told and the refusal's place
 pub sky-fixed : FixesAll sky.Post {C = ℕ × List Float × List ℕ × List ℕ} (λ κs r e. (r, e .1 .1 .1 .1 .1 .1 .0 .now, e .1 .1 .1 .1 .1 .1 .1 .0 .now, e .1 .1 .1 .1 .1 .1 .1 .1 .0 .now))
 sky-fixed κs x r r' e e' p q = ap (λ (o : Sky). (o .answer, o .times, o .told, o .at)) (p ∙ sym q)
+
+-- the times, what is told, the report and the refusal's place
+pub watts-fixed : FixesAll watts.Post {C = ℕ × List Float × List ℕ × List ℕ × List ℕ} (λ κs r e. (r, e .1 .1 .1 .1 .1 .1 .1 .0 .now, e .1 .1 .1 .1 .1 .1 .1 .1 .0 .now, e .1 .1 .1 .1 .1 .1 .1 .1 .1 .0 .now, e .1 .1 .1 .1 .1 .1 .1 .1 .1 .1 .0 .now))
+watts-fixed κs x r r' e e' p q = ap (λ (o : Watts). (o .answer, o .times, o .told, o .report, o .at)) (p ∙ sym q)
+
+pub share-fixed : FixesAll share.Post {C = ℕ × List ℕ} (λ κs r e. (r, e .1 .1 .0 .now))
+share-fixed κs x r r' e e' p q = λ i. ((p .0 ∙ sym (q .0)) i, (p .1 ∙ sym (q .1)) i)

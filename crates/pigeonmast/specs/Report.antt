@@ -14,6 +14,10 @@ use Rattle.builder.specs.Build.{Outcome}
 use Rattle.lent.specs.Ladder.{Refusal, none, numbered}
 use Rattle.walk.specs.Answer.{Told}
 use Rattle.sky.specs.Sky.{Filling}
+use Rattle.watts.specs.declared.fraction.Terms.{Terms}
+use Rattle.watts.specs.declared.Counted.{Counted}
+use Rattle.watts.specs.declared.Counted.the-variants.{Report, Refused}
+use Rattle.watts.specs.Watts.{wattsRefusal, Outcome as Weighing}
 
 -- ---- pigeonmast_abi (rule X5)
 -- the number of the calls' form, PIGEONMAST_ABI of the C header
@@ -134,3 +138,28 @@ normals answer told triangles = record { answer = answer; told = told; triangles
 -- 0, or the refusal number with its at
 unfoldable pub normalsReport : Refilling → Normals
 normalsReport o = normals (refusalNumber (o .refusal)) (refusalAt (o .refusal) ∷ []) (o .mesh)
+
+-- ---- pigeonmast_watts and pigeonmast_share (rule X7)
+-- the number, and what report, at, times and told hold at the end
+pub record Watts : Type 0 where
+  pub answer : ℕ
+  pub report : List ℕ
+  pub at : List ℕ
+  pub times : List Float
+  pub told : List ℕ
+
+abbrev pub watts : ℕ → List ℕ → List ℕ → List Float → List ℕ → Watts
+watts answer report at times told = record { answer = answer; report = report; at = at; times = times; told = told }
+
+-- share = above, below
+unfoldable pub shareNumbers : Terms → List ℕ
+shareNumbers r = r .above ∷ r .below ∷ []
+
+-- report = shaded, open, refused, total, above, below; unchanged after a refusal
+unfoldable pub reportNumbers : Counted → List ℕ → List ℕ
+reportNumbers (Report f r) report = f .shaded ∷ f .«open» ∷ f .refused ∷ f .total ∷ r .above ∷ r .below ∷ []
+reportNumbers (Refused number at) report = report
+
+-- 0, or the refusal number with its at
+unfoldable pub wattsReport : Weighing → List ℕ → Watts
+wattsReport o report = watts (refusalNumber (wattsRefusal (o .answer))) (reportNumbers (o .answer) report) (refusalAt (wattsRefusal (o .answer)) ∷ []) (o .times) (o .told)

@@ -12,6 +12,7 @@ use triangle::Hit;
 use triangle::Refill;
 use triangle::Triangle;
 use walk::Answer;
+use watts::Counted;
 ghost use mathlib.Core.Path.{_≡_};
 ghost use mathlib.Core.List.{[], _∷_};
 ghost use Rattle.float.specs.Root.{root};
@@ -28,7 +29,9 @@ ghost use Rattle.tree.specs.Lent.{lent};
 ghost use Rattle.walk.specs.Answer.{told as answered};
 ghost use Rattle.walk.specs.Walk as scene;
 ghost use Rattle.sky.specs.Sky.{skyRefusal, sky as filled};
-ghost use Rattle.pigeonmast.specs.Report.{abi, hitNumbers, frontNumber, sideNumber, refusalNumber, refusalAt, build, buildTold, buildReport, walk, walked, sky, skyReport, test, slabReport, triangleReport, normals, normalsReport};
+ghost use Rattle.watts.specs.Share.{share as shareOf};
+ghost use Rattle.watts.specs.Watts.{wattsRefusal, watts as weighed};
+ghost use Rattle.pigeonmast.specs.Report.{abi, hitNumbers, frontNumber, sideNumber, refusalNumber, refusalAt, build, buildTold, buildReport, walk, walked, sky, skyReport, test, slabReport, triangleReport, normals, normalsReport, watts, reportNumbers, wattsReport, shareNumbers};
 
 // A hit's nine numbers: t, point, normal, u, v.
 fn hit_numbers(hit: Hit) -> [f64; 9]
@@ -120,6 +123,32 @@ fn tell_sky(answer: Filled, at: &mut [u64; 1]) -> u32
             0
         }
         Filled::Refused { number, at: place } => {
+            *at = [place];
+            number
+        }
+    }
+}
+
+// What a sky of weighed rays answered: 0 with `report` written, or the refusal number; and `at` written.
+fn tell_watts(answer: Counted, report: &mut [u64; 6], at: &mut [u64; 1]) -> u32
+    ensures { λ r. ⌜ r ≡ refusalNumber (wattsRefusal answer) ⌝ }
+    ensures { λ _. ⌜ now (report .exit) ≡ reportNumbers answer (now (report .entry)) ⌝ }
+    ensures { λ _. ⌜ now (at .exit) ≡ refusalAt (wattsRefusal answer) ∷ [] ⌝ }
+{
+    match answer {
+        Counted::Report { figures, share } => {
+            *report = [
+                figures.shaded,
+                figures.open,
+                figures.refused,
+                figures.total,
+                share.above,
+                share.below,
+            ];
+            *at = [0];
+            0
+        }
+        Counted::Refused { number, at: place } => {
             *at = [place];
             number
         }
@@ -306,4 +335,50 @@ pub extern "C" fn pigeonmast_normals(triangles: &mut [f64], told: &mut [u64; 1])
 {
     let answer = triangle::refill_normals(triangles);
     tell_normals(answer, told)
+}
+
+// Walks every ray as `pigeonmast_sky` does, into the same times and told, and weighs it: `weights` has its watts, one number a ray. 0 and at = 0:
+// report = shaded watts (hits), open watts (misses), refused watts, total watts, and shaded over shaded and open together in lowest terms, above and
+// below, 0 and 1 when those are 0. Or the refusal of the whole call with its at, `pigeonmast_sky`'s, 27 or 28 (`watts::watts`); report, times and
+// told stay unchanged.
+#[no_mangle]
+pub extern "C" fn pigeonmast_watts(
+    triangles: &[f64],
+    materials: &[u32],
+    index: &[u32],
+    boxes: &[f64],
+    links: &[u32],
+    rays: &[f64],
+    weights: &[u32],
+    times: &mut [f64],
+    told: &mut [u64],
+    report: &mut [u64; 6],
+    at: &mut [u64; 1],
+) -> u32
+    ensures { λ r. ⌜ watts r (now (report .exit)) (now (at .exit)) (now (times .exit)) (now (told .exit)) ≡ wattsReport (weighed (lent (now (triangles .entry)) (now (materials .entry)) (now (index .entry)) (now (boxes .entry)) (now (links .entry))) (now (rays .entry)) (now (weights .entry)) (now (times .entry)) (now (told .entry))) (now (report .entry)) ⌝ }
+{
+    let answer = watts::watts(
+        triangles,
+        materials,
+        index,
+        boxes,
+        links,
+        rays,
+        weights,
+        times,
+        told,
+    );
+    tell_watts(answer, report, at)
+}
+
+// The share that added figures give: shaded over shaded and open together in lowest terms, share = above, below; 0 and 1 where both are 0; 0 and 0 just
+// where the lower number would pass 64 bits. Answers 0 on every input.
+#[no_mangle]
+pub extern "C" fn pigeonmast_share(shaded: u64, open: u64, share: &mut [u64; 2]) -> u32
+    ensures { λ r. ⌜ r ≡ 0 ⌝ }
+    ensures { λ _. ⌜ now (share .exit) ≡ shareNumbers (shareOf shaded «open») ⌝ }
+{
+    let terms = watts::share(shaded, open);
+    *share = [terms.above, terms.below];
+    0
 }

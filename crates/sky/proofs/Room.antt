@@ -5,24 +5,64 @@ use Prim.Native.Nat.{ℕ, _+_, _*_, _%_, _≤_, _<_}
 use native.Mathlib.Omega.{arith}
 use lib.ListN.{length, getD, drop}
 use lib.Seq.{sets}
+use borrow.Author.Tests.{ltb-false}
 use lib.Ieee.{Float, nan}
 use Rattle.lent.specs.Limits.{most-triangles}
-use Rattle.lent.specs.Ladder.{none, numbered, triangleCount}
+use Rattle.lent.specs.Ladder.{Refusal, none, numbered, triangleCount, firstFailed, answered as answered-by}
 use Rattle.lent.specs.Flat.{put, records}
-use Rattle.lent.proofs.Ladder.{ends, goes, serves, agree, not-below, all-passed}
+use Rattle.lent.proofs.Ladder.{ends, goes, serves, judges, judged, agree, agreed, not-below, all-passed, each-passed, apart}
 use Rattle.lent.proofs.Flat.{fill-more, records-length, records-at}
 use Rattle.aabb.specs.declared.vector.Ray.{Ray}
 use Rattle.aabb.specs.Vector.{rayAt}
 use Rattle.walk.specs.declared.Answer.{Answer}
-use Rattle.tree.specs.Lent.{Lent, Labelled}
+use Rattle.tree.specs.Lent.{Mesh, Lent, Labelled}
 use Rattle.walk.specs.Answer.{told as answered}
 use Rattle.walk.specs.Walk.{walk}
+use Rattle.sky.specs.declared.Filled.{Filled}
+use Rattle.sky.specs.declared.Filled.the-variants.{Places, Refused}
 use Rattle.sky.specs.declared.Place.{Place}
-use Rattle.sky.specs.Sky.{rayCount, placeOf, placeFor, toldOf, toldFor, timesOf, timesFor, placeAt, Filling, filling, filled, sky}
+use Rattle.sky.specs.Sky.{rayCount, placeOf, placeFor, toldOf, toldFor, timesOf, timesFor, placeAt, skyRefusal, Filling, filling, filled, skyChecks, sky}
 
 pub place-is : (s : Lent) (rays : List Float) (k : ℕ) (r : Ray) (a : Answer) (p : Place) → r ≡ rayAt rays k → answered a ≡ walk s r → p ≡ placeOf (answered a) → p ≡ placeFor s rays k
 unfolding placeFor
 place-is s rays k r a p e f g = g ∙ ap placeOf f ∙ ap (λ (z : Ray). placeOf (walk s z)) e
+
+-- ---- what the checks of the whole call ask
+pub record Passed (m : Mesh) (rays times : List Float) (told : List ℕ) : Type 0 where
+  pub whole : length (m .triangles) % 12 ≡ 0
+  pub few : triangleCount (m .triangles) ≤ most-triangles
+  pub labelled : Labelled m
+  pub sixes : length rays % 6 ≡ 0
+  pub timed : rayCount rays * 3 ≤ length times
+  pub roomy : rayCount rays * 5 ≤ length told
+
+module _ (m : Mesh) (rays times : List Float) (told : List ℕ) where
+  pub none-fails : Passed m rays times told → firstFailed (skyChecks m rays times told) ≡ none
+  unfolding skyChecks
+  none-fails p = sym (judges (goes (agree (p .whole)) (goes (not-below (p .few)) (goes (agree (p .labelled)) (goes (agree (p .sixes)) (goes (not-below (p .timed)) (goes (not-below (p .roomy)) (serves refl))))))))
+
+  pub passed : firstFailed (skyChecks m rays times told) ≡ none → Passed m rays times told
+  unfolding skyChecks
+  passed p =
+      let e = each-passed (skyChecks m rays times told) p in
+      record {
+        whole = agreed (e .0);
+        few = ltb-false _ _ (e .1 .0);
+        labelled = agreed (e .1 .1 .0);
+        sixes = agreed (e .1 .1 .1 .0);
+        timed = ltb-false _ _ (e .1 .1 .1 .1 .0);
+        roomy = ltb-false _ _ (e .1 .1 .1 .1 .1 .0);
+      }
+
+-- as it was judged
+module _ (a : Filled) (r : Refusal) (is : skyRefusal a ≡ r) where
+  pub judged-none : a ≡ Places → r ≡ none
+  unfolding skyRefusal
+  judged-none e = sym is ∙ ap skyRefusal e
+
+  pub judged-failed : (number at : ℕ) → a ≡ Refused number at → r ≡ numbered number at
+  unfolding skyRefusal
+  judged-failed number at e = sym is ∙ ap skyRefusal e
 
 module _ (s : Lent) (rays : List Float) where
   -- ---- so many written
@@ -64,24 +104,30 @@ module _ (s : Lent) (rays : List Float) where
   unfolding filled
   filled-is n times times′ told told′ e f = rw (e, f)
 
-  -- where none of the checks fails, the call is served
-  pub served : (times : List Float) (told : List ℕ) → length (s .mesh .triangles) % 12 ≡ 0 → triangleCount (s .mesh .triangles) ≤ most-triangles → Labelled (s .mesh) → length rays % 6 ≡ 0 → rayCount rays * 3 ≤ length times → rayCount rays * 5 ≤ length told
-      → sky s rays times told .refusal ≡ none
-  unfolding sky filled
-  served times told whole few named sixes timed roomy = ap (λ (o : Filling). o .refusal) (sym (ends (goes (agree whole) (goes (not-below few) (goes (agree named) (goes (agree sixes) (goes (not-below timed) (goes (not-below roomy) (serves refl)))))))))
+  module _ (times : List Float) (told : List ℕ) where
+    pub refused-is : (number at : ℕ) → firstFailed (skyChecks (s .mesh) rays times told) ≡ numbered number at → filling (skyRefusal (Refused number at)) times told ≡ sky s rays times told
+    unfolding sky skyRefusal answered-by
+    refused-is number at p = ends (judged (numbered number at) (sym p) refl)
+
+    pub served-is : (x : Filling) → firstFailed (skyChecks (s .mesh) rays times told) ≡ none → x ≡ filled s rays (rayCount rays) times told → x ≡ sky s rays times told
+    unfolding sky answered-by
+    served-is x p e = ends (judged none (sym p) e)
+
+    pub served : Passed (s .mesh) rays times told → sky s rays times told .refusal ≡ none
+    unfolding filled
+    served p = ap (λ (o : Filling). o .refusal) (sym (served-is (filled s rays (rayCount rays) times told) (none-fails (s .mesh) rays times told p) refl))
 
   -- a call that is served passed every check, so every place is filled
   filled-all : (times : List Float) (told : List ℕ) → sky s rays times told .refusal ≡ none → filled s rays (rayCount rays) times told ≡ sky s rays times told
   unfolding sky
-  filled-all times told e = all-passed _ _ _ (sky s rays times told) refl (λ k a r. clash k a (ap (λ (o : Filling). o .refusal) r ∙ e)) .1
-    where
-      clash : (k a : ℕ) → numbered k a ≡ none → ⊥
-      clash k a p = let z : _≡_ {A = ℕ} 0 1 = cc in omega arith
+  filled-all times told e = all-passed _ _ _ (sky s rays times told) refl (λ k a r. apart k a (sym (ap (λ (o : Filling). o .refusal) r ∙ e))) .1
 
-  places : (times : List Float) (told : List ℕ) (k : ℕ) → k < rayCount rays → placeAt (filled s rays (rayCount rays) times told .times) (filled s rays (rayCount rays) times told .told) k ≡ placeOf (walk s (rayAt rays k))
-  unfolding filled placeFor
-  places times told k h = place-in times told (rayCount rays) k h
+  -- so many filled: place k is that of ray k
+  pub place-filled : (times : List Float) (told : List ℕ) (n k : ℕ) → k < n → placeAt (filled s rays n times told .times) (filled s rays n times told .told) k ≡ placeFor s rays k
+  unfolding filled
+  place-filled times told n k h = place-in times told n k h
 
   -- Place k is what the single walk gives for ray k
   pub place-k : (times : List Float) (told : List ℕ) → sky s rays times told .refusal ≡ none → (k : ℕ) → k < rayCount rays → placeAt (sky s rays times told .times) (sky s rays times told .told) k ≡ placeOf (walk s (rayAt rays k))
-  place-k times told e k h = subst (λ (o : Filling). placeAt (o .times) (o .told) k ≡ placeOf (walk s (rayAt rays k))) (filled-all times told e) (places times told k h)
+  unfolding placeFor
+  place-k times told e k h = subst (λ (o : Filling). placeAt (o .times) (o .told) k ≡ placeOf (walk s (rayAt rays k))) (filled-all times told e) (place-filled times told (rayCount rays) k h)

@@ -5,13 +5,13 @@ use mathlib.Core.List.{List, [], _∷_, _++_}
 use lib.Dec.{ltb, eqb}
 use lib.ListN.{length, getD, drop}
 use lib.Ieee.{Float, nan}
-use Rattle.lent.specs.Ladder.{Refusal, none, numbered, check, unless, ragged, crowded, unlabelled}
+use Rattle.lent.specs.Ladder.{Refusal, none, numbered, Check, check, unless, ragged, crowded, unlabelled}
 use Rattle.lent.specs.Flat.{records}
 use Rattle.float.specs.Number.{nought}
 use Rattle.aabb.specs.Vector.{rayAt}
 use Rattle.triangle.specs.declared.Found.{Found}
 use Rattle.triangle.specs.declared.Found.the-variants.{At, Nothing}
-use Rattle.tree.specs.Lent.{Lent}
+use Rattle.tree.specs.Lent.{Mesh, Lent}
 use Rattle.walk.specs.Answer.{Told}
 use Rattle.walk.specs.Walk.{walk}
 use Rattle.sky.specs.declared.Filled.{Filled}
@@ -82,17 +82,19 @@ filling refusal times told = record { refusal = refusal; times = times; told = t
 unfoldable pub filled : Lent → List Float → ℕ → List Float → List ℕ → Filling
 filled s rays n times told = filling none (records (timesFor s rays) n ++ drop (n * 3) times) (records (toldFor s rays) n ++ drop (n * 5) told)
 
--- Rule K4: the whole call is refused, and writes nothing, for the mesh (1, 2) and its materials (18), for rays that are not in sixes (14), and for
--- room that is too short in times or in told (13)
-unfoldable pub sky : Lent → List Float → List Float → List ℕ → Filling
-sky s rays times told =
-    unless
-    (ragged (s .mesh .triangles)
-    ∷ crowded (s .mesh .triangles)
-    ∷ unlabelled (s .mesh .triangles) (s .mesh .materials)
+-- Rule K4: the checks of the whole call: the mesh (1, 2) and its materials (18), rays that are not in sixes (14), and room that is too short in times
+-- or in told (13)
+unfoldable pub skyChecks : Mesh → List Float → List Float → List ℕ → List Check
+skyChecks m rays times told =
+    ragged (m .triangles)
+    ∷ crowded (m .triangles)
+    ∷ unlabelled (m .triangles) (m .materials)
     ∷ check (not (eqb (length rays % 6) 0)) 14 0
     ∷ check (ltb (length times) (rayCount rays * 3)) 13 0
     ∷ check (ltb (length told) (rayCount rays * 5)) 13 0
-    ∷ [])
-    (λ number at. filling (numbered number at) times told)
-    (filled s rays (rayCount rays) times told)
+    ∷ []
+
+-- Rule K4: where it is refused it writes nothing
+unfoldable pub sky : Lent → List Float → List Float → List ℕ → Filling
+sky s rays times told =
+    unless (skyChecks (s .mesh) rays times told) (λ number at. filling (numbered number at) times told) (filled s rays (rayCount rays) times told)

@@ -6,10 +6,11 @@ ghost use mathlib.Core.Path.{_≡_};
 ghost use mathlib.Core.List.{_++_};
 ghost use Prim.Native.Nat.{_+_, _*_, _≤_};
 ghost use lib.ListN.{length, drop};
+ghost use Rattle.lent.specs.Ladder.{firstFailed};
 ghost use Rattle.lent.specs.Flat.{put as written, records};
-ghost use Rattle.tree.specs.Lent.{lent};
+ghost use Rattle.tree.specs.Lent.{meshOf, lent};
 ghost use Rattle.walk.specs.Answer.{told as answered};
-ghost use Rattle.sky.specs.Sky.{placeOf, toldOf, timesOf, timesFor, toldFor, skyRefusal, filling, sky};
+ghost use Rattle.sky.specs.Sky.{placeOf, toldOf, timesOf, timesFor, toldFor, skyRefusal, filling, skyChecks, sky};
 
 // What the call answers: every ray's place is filled, or the whole call is refused, with a number and `at`.
 pub enum Filled {
@@ -115,22 +116,17 @@ fn fill(
     }
 }
 
-// The walk of every ray, six numbers each: origin, direction. Place k is what `walk` answers for ray k: times[3k..3k+3] are t, u and v of a
-// hit, else 0, and told[5k..5k+5] are the outcome (0 a miss, 100 a hit, else the refusal number), the triangle or the refusal's `at`, the box tests, the triangle
-// tests and the triangle's material, 0 where none applies. A refused ray does not stop the rest; room beyond the rays stays. The whole call is
-// refused, in this order, and then writes nothing: 1 triangles that are not in twelves; 2 more than 65,536 of them; 18 not one material for each;
-// 14 rays that are not in sixes; 13 times shorter than three a ray or told shorter than five.
-pub fn sky(
+// What `sky` would answer for these, with nothing written: the refusals of the whole call, in this order: 1 triangles that are not in twelves;
+// 2 more than 65,536 of them; 18 not one material for each; 14 rays that are not in sixes; 13 times shorter than three a ray or told shorter than
+// five.
+pub fn judge(
     triangles: &[f64],
     materials: &[u32],
-    index: &[u32],
-    boxes: &[f64],
-    links: &[u32],
     rays: &[f64],
-    times: &mut [f64],
-    told: &mut [u64],
+    times: &[f64],
+    told: &[u64],
 ) -> Filled
-    ensures { λ r. ⌜ filling (skyRefusal r) (now (times .exit)) (now (told .exit)) ≡ sky (lent (now (triangles .entry)) (now (materials .entry)) (now (index .entry)) (now (boxes .entry)) (now (links .entry))) (now (rays .entry)) (now (times .entry)) (now (told .entry)) ⌝ }
+    ensures { λ r. ⌜ skyRefusal r ≡ firstFailed (skyChecks (meshOf (now (triangles .entry)) (now (materials .entry))) (now (rays .entry)) (now (times .entry)) (now (told .entry))) ⌝ }
 {
     let numbers = triangles.len();
     if numbers % 12 != 0 {
@@ -156,6 +152,29 @@ pub fn sky(
     if told.len() < count * 5 {
         return Filled::Refused { number: 13, at: 0 };
     }
+    Filled::Places
+}
+
+// The walk of every ray, six numbers each: origin, direction. Place k is what `walk` answers for ray k: times[3k..3k+3] are t, u and v of a
+// hit, else 0, and told[5k..5k+5] are the outcome (0 a miss, 100 a hit, else the refusal number), the triangle or the refusal's `at`, the box
+// tests, the triangle tests and the triangle's material, 0 where none applies. A refused ray does not stop the rest; room beyond the rays stays. The whole call is
+// refused as `judge` says, and then writes nothing.
+pub fn sky(
+    triangles: &[f64],
+    materials: &[u32],
+    index: &[u32],
+    boxes: &[f64],
+    links: &[u32],
+    rays: &[f64],
+    times: &mut [f64],
+    told: &mut [u64],
+) -> Filled
+    ensures { λ r. ⌜ filling (skyRefusal r) (now (times .exit)) (now (told .exit)) ≡ sky (lent (now (triangles .entry)) (now (materials .entry)) (now (index .entry)) (now (boxes .entry)) (now (links .entry))) (now (rays .entry)) (now (times .entry)) (now (told .entry)) ⌝ }
+{
+    let answer = judge(triangles, materials, rays, times, told);
+    if let Filled::Refused { number, at } = answer {
+        return Filled::Refused { number, at };
+    }
     fill(
         triangles,
         materials,
@@ -163,7 +182,7 @@ pub fn sky(
         boxes,
         links,
         rays,
-        count,
+        rays.len() / 6,
         times,
         told,
     );

@@ -2,7 +2,6 @@
 use mathlib.Core.Path.{_≡_, sym, ap, subst, _∙_}
 use Prim.Native.Nat.{ℕ, _*_, _-_, _≤_, _<_}
 use native.Mathlib.Nat.{sub-zero}
-use native.Mathlib.Omega.{arith}
 use mathlib.Core.List.{List, _∷_, _++_}
 use lib.ListN.{length, take, drop, replicate}
 use lib.Seq.{take-at}
@@ -12,7 +11,7 @@ use borrow.Author.Tests.{ltb-false}
 use Rattle.lent.specs.Limits.{most-placements}
 use Rattle.lent.specs.Ladder.{Refusal, none, numbered, Check, check, answered, firstFailed, unless}
 use Rattle.lent.specs.Flat.{records}
-use Rattle.lent.proofs.Ladder.{Ends, ends, goes, stops, below, not-below, past, refused-first, all-passed}
+use Rattle.lent.proofs.Ladder.{Ends, ends, goes, stops, below, not-below, each-passed, further}
 use Rattle.float.specs.Number.{nought}
 use Rattle.aabb.specs.declared.bounds.Aabb.{Aabb}
 use Rattle.aabb.specs.Bounds.{boxAt}
@@ -69,33 +68,30 @@ module _ {A : Type 0} {checks : List Check} {refused : ℕ → ℕ → A} {serve
   pub suffices : k ≤ a → Ends checks refused served x → Ends (check (ltb a r) 4 r ∷ checks) refused served x
   suffices h e = goes (not-below (subst (λ (z : ℕ). z ≤ a) K h)) e
 
-clash : {A : Type 0} (number at : ℕ) → numbered number at ≡ none → A
-clash number at e = absurd (let z : _≡_ {A = ℕ} 0 1 = cc in omega arith)
-
 module _ (matrices inverses : List Float) (s : Standing) (S : standing s ≡ firstFailed (placementChecks matrices inverses)) (F : s ≡ Fine) where
   fine : firstFailed (placementChecks matrices inverses) ≡ none
   unfolding standing
   fine = sym S ∙ ap standing F
 
-  passed : unless (placementChecks matrices inverses) numbered none ≡ none
-  unfolding unless answered
-  passed = ap (λ (r : Refusal). answered r numbered none) fine
-
   pub few : placementCount matrices ≤ most-placements
-  few = ltb-false most-placements (placementCount matrices) (all-passed (placementChecks matrices inverses) numbered none none passed (λ number at e. clash number at e) .0 .1 .1 .0)
+  few = ltb-false most-placements (placementCount matrices) (each-passed (placementChecks matrices inverses) fine .1 .1 .0)
 
 module _ (matrices inverses house before : List Float) (index : List ℕ) (boxes : List Float) (links : List ℕ) (s : Standing) (S : standing s ≡ firstFailed (placementChecks matrices inverses)) where
   abbrev refused : ℕ → ℕ → Outcome
   refused number at = outcome (top (refusedReply number at) index boxes links) before
 
+  -- by what the placements' own ladder says, with the checks that follow
+  by-first : (root : Aabb) (f : Refusal) → firstFailed (placementChecks matrices inverses) ≡ f
+      → answered (answered f numbered (firstFailed (roomChecks matrices root before index boxes links))) refused (raised (proxies matrices root) before index boxes links) ≡ madeOver matrices inverses root before index boxes links
+  unfolding madeOver unless
+  by-first root f e =
+      ap (λ (r : Refusal). answered r refused (raised (proxies matrices root) before index boxes links))
+      (ap (λ (r : Refusal). answered r numbered (firstFailed (roomChecks matrices root before index boxes links))) (sym e) ∙ sym (further (placementChecks matrices inverses) (roomChecks matrices root before index boxes links)))
+
   pub unplaced : (number at : ℕ) → s ≡ Unplaced number at → refused number at ≡ made matrices inverses house before index boxes links
-  unfolding made madeOver standing
-  unplaced number at e =
-      refused-first (roomChecks matrices (boxAt house 0) before index boxes links) refused (raised (proxies matrices (boxAt house 0)) before index boxes links) (placementChecks matrices inverses) number at (sym S ∙ ap standing e)
+  unfolding made standing answered
+  unplaced number at e = by-first (boxAt house 0) (numbered number at) (sym S ∙ ap standing e)
 
   pub placed : s ≡ Fine → (root : Aabb) (x : Outcome) → root ≡ boxAt house 0 → Ends (roomChecks matrices root before index boxes links) refused (raised (proxies matrices root) before index boxes links) x → x ≡ made matrices inverses house before index boxes links
-  unfolding made madeOver
-  placed F root x e rest =
-      ends rest
-      ∙ past (roomChecks matrices root before index boxes links) refused (raised (proxies matrices root) before index boxes links) (placementChecks matrices inverses) (fine matrices inverses s S F)
-      ∙ ap (λ (b : Aabb). madeOver matrices inverses b before index boxes links) e
+  unfolding made unless answered
+  placed F root x e rest = ends rest ∙ by-first root none (fine matrices inverses s S F) ∙ ap (λ (b : Aabb). madeOver matrices inverses b before index boxes links) e

@@ -15,7 +15,7 @@ use Rattle.lent.specs.Limits.{most-triangles, most-placements, deepest}
 use Rattle.lent.specs.Ladder.{Check, Refusal, none, numbered, firstFailed, answered, unless, triangleCount}
 use Rattle.lent.specs.Members.{Every, Some, Member}
 use Rattle.lent.specs.Permutation.{upTo}
-use Rattle.lent.proofs.Ladder.{ends, goes, serves, agree, not-below, all-passed}
+use Rattle.lent.proofs.Ladder.{ends, goes, agree, not-below, apart, each-passed}
 use Rattle.aabb.specs.declared.bounds.Aabb.{Aabb}
 use Rattle.aabb.specs.Bounds.{bounded}
 use Rattle.triangle.specs.declared.Triangle.{Triangle}
@@ -64,13 +64,10 @@ module _ (matrices : List Float) (root : Aabb) where
         sym (rw count (ends (goes (agree whole) (goes (not-below fits) (goes (not-below i) (goes (not-below b) (goes (not-below l) (none-bad (all-admitted (proxies matrices root) m 0 (λ j p q. admitted-j j (omega arith))) refl))))))))
 
 -- ---- the ladder
-clash : {A : Type 0} (number at : ℕ) → none ≡ numbered number at → A
-clash number at e = absurd (let z : _≡_ {A = ℕ} 0 1 = cc in omega arith)
-
 -- a refusal is that of a check
 failed-number : (checks : List Check) (number at : ℕ) → firstFailed checks ≡ numbered number at → Some (λ c. number ≡ c .number) checks
 unfolding firstFailed
-failed-number [] number at e = clash number at e
+failed-number [] number at e = apart number at e
 failed-number (c ∷ cs) number at e = go (c .fails) e (λ f. failed-number cs number at f)
   where
     same : (k i : ℕ) → numbered k i ≡ numbered number at → number ≡ k
@@ -85,16 +82,11 @@ unfolding misplaced
 misplaced-number k (At i) = refl
 misplaced-number k None = refl
 
--- ---- where no check fails: all of them, by what each tests
-all-pass : (checks : List Check) → firstFailed checks ≡ none → Every (λ c. c .fails ≡ false) checks
-unfolding unless answered
-all-pass checks e = all-passed checks numbered none none (ap (λ (r : Refusal). answered r numbered none) e) (λ number at f. clash number at (sym f)) .0
-
 -- Where 23, 24 and 25 do not apply, no world box overflows
 pub no-overflow : (matrices inverses : List Float) (root : Aabb) → firstFailed (placementChecks matrices inverses) ≡ none → T (bounded root) → NoOverflow matrices root
 unfolding worldAt goodAt
 no-overflow matrices inverses root e h i l =
-    let good = all-stand (goodAt matrices inverses) (placementCount matrices) 0 i (none-misplaced 24 (lowest (goodAt matrices inverses) 0 (placementCount matrices)) (all-pass (placementChecks matrices inverses) e .1 .1 .1 .0)) (omega arith) (omega arith) in
+    let good = all-stand (goodAt matrices inverses) (placementCount matrices) 0 i (none-misplaced 24 (lowest (goodAt matrices inverses) 0 (placementCount matrices)) (each-passed (placementChecks matrices inverses) e .1 .1 .1 .0)) (omega arith) (omega arith) in
     world-finite (matrixAt matrices i) (and-l (goodMatrix (matrixAt matrices i)) (goodMatrix (matrixAt inverses i)) good) root h
 
 module _ (matrices inverses : List Float) (root : Aabb) (before : List Float) (index : List ℕ) (boxes : List Float) (links : List ℕ) where
@@ -106,7 +98,7 @@ module _ (matrices inverses : List Float) (root : Aabb) (before : List Float) (i
 
   module _ (passes : firstFailed checks ≡ none) where
     passed : Every (λ c. c .fails ≡ false) checks
-    passed = all-pass checks passes
+    passed = each-passed checks passes
 
     raised-is : all-made .tree ≡ built (proxies matrices root) index boxes links
     unfolding madeOver unless answered raised
@@ -131,7 +123,7 @@ module _ (matrices inverses : List Float) (root : Aabb) (before : List Float) (i
   deep-number : (o : Option Grown) (number at : ℕ) → finished (placementCount matrices) o index boxes links .answer .refusal ≡ numbered number at → number ≡ 6
   unfolding finished
   deep-number deep number at e = cc
-  deep-number (some g) number at e = clash number at e
+  deep-number (some g) number at e = apart number at e
 
   -- the refusals of making
   pub named : Named all-made

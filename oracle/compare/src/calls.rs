@@ -19,6 +19,20 @@ pub type Sky = fn(
     &mut [u64; 1],
 ) -> u32;
 
+pub type Watts = fn(
+    &[f64],
+    &[u32],
+    &[u32],
+    &[f64],
+    &[u32],
+    &[f64],
+    &[u32],
+    &mut [f64],
+    &mut [u64],
+    &mut [u64; 6],
+    &mut [u64; 1],
+) -> u32;
+
 #[derive(Clone, Copy)]
 pub struct Calls {
     pub build: Build,
@@ -29,6 +43,8 @@ pub struct Calls {
     pub root: fn(f64) -> f64,
     pub new: fn(&[f64; 9], &mut [f64; 12]),
     pub normals: fn(&mut [f64], &mut [u64; 1]) -> u32,
+    pub watts: Watts,
+    pub share: fn(u64, u64, &mut [u64; 2]) -> u32,
 }
 
 impl Calls {
@@ -84,6 +100,8 @@ pub const READING: Calls = Calls {
     root: f64::sqrt,
     new: reading::calls::new,
     normals: reading::calls::normals,
+    watts: reading::calls::watts,
+    share: reading::calls::share,
 };
 
 /// Equal bit for bit; two NaNs count as one.

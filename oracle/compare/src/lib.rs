@@ -17,6 +17,7 @@ pub mod run;
 pub mod show;
 pub mod sky_check;
 pub mod ties;
+pub mod watts_check;
 pub mod world;
 
 use random::Random;

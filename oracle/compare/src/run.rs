@@ -5,7 +5,7 @@ use crate::mesh_check::{self, Case, Tally};
 use crate::random::Random;
 use crate::{
     foreign_check, functions, hostile, meshes, node_room, normal_check, rays, reading_check,
-    root_check, show, sky_check, Lists,
+    root_check, show, sky_check, watts_check, Lists,
 };
 use std::collections::BTreeMap;
 
@@ -17,6 +17,8 @@ pub struct Plan {
     pub large_meshes: usize,
     pub hostile: usize,
     pub skies: usize,
+    pub watts: usize,
+    pub shares: usize,
     pub functions: usize,
     pub roots: usize,
 }
@@ -28,6 +30,8 @@ pub const QUICK: Plan = Plan {
     large_meshes: 3,
     hostile: 100_000,
     skies: 30_000,
+    watts: 10_000,
+    shares: 100_000,
     functions: 1_000_000,
     roots: 1_000_000,
 };
@@ -39,6 +43,8 @@ pub const LONG: Plan = Plan {
     large_meshes: 30,
     hostile: 1_500_000,
     skies: 400_000,
+    watts: 200_000,
+    shares: 1_000_000,
     functions: 20_000_000,
     roots: 100_000_000,
 };
@@ -50,6 +56,8 @@ pub fn all(calls: &Calls, plan: &Plan) -> u64 {
         large_meshes(calls, plan),
         every_hostile(calls, plan),
         every_sky(calls, plan),
+        every_watts(calls, plan),
+        every_share(calls, plan),
         every_function(calls, plan),
         every_root(calls, plan),
         every_normal(calls, plan),
@@ -281,6 +289,51 @@ fn every_sky(calls: &Calls, plan: &Plan) -> u64 {
     println!(
         "skies of rays, seed {}: answers {answers:?}, places {outcomes:?}",
         plan.seed ^ 7
+    );
+    found.end()
+}
+
+fn every_watts(calls: &Calls, plan: &Plan) -> u64 {
+    let mut found = Found::default();
+    let mut r = Random::new(plan.seed ^ 14);
+    let (mut answers, mut places) = (BTreeMap::new(), 0);
+    let large = watts_check::large(&mut r);
+    let many = (0..plan.watts).map(|_| watts_check::weighed(&mut r));
+    for case in large.into_iter().chain(many) {
+        match watts_check::check(calls, &case) {
+            Ok((number, n)) => {
+                *answers.entry(number).or_insert(0_u64) += 1;
+                places += n;
+            }
+            Err(why) => found.add(case.sky.rays.len() + case.sky.case.mesh.len(), || {
+                let rays = show::bits(&case.sky.rays);
+                let weights = &case.weights;
+                let lists = show::hostile(&case.sky.case);
+                format!("  {why}\n  {lists}  rays: {rays}\n  weights: {weights:?}")
+            }),
+        }
+    }
+    println!(
+        "watts, seed {}: answers {answers:?}, {places} rays weighed, each served call cut in two",
+        plan.seed ^ 14
+    );
+    found.end()
+}
+
+fn every_share(calls: &Calls, plan: &Plan) -> u64 {
+    let mut found = Found::default();
+    let mut r = Random::new(plan.seed ^ 15);
+    let mut beyond = 0_u64;
+    for _ in 0..plan.shares {
+        match watts_check::share(calls, watts_check::share_case(&mut r)) {
+            Ok(below) => beyond += u64::from(below == 0),
+            Err(why) => found.add(1, || format!("  {why}")),
+        }
+    }
+    println!(
+        "shares, seed {}: {} compared, {beyond} beyond 64 bits",
+        plan.seed ^ 15,
+        plan.shares
     );
     found.end()
 }

@@ -13,6 +13,8 @@ fn the_reading_is_the_rust() {
         large_meshes: 1,
         hostile: 500,
         skies: 500,
+        watts: 300,
+        shares: 2_000,
         functions: 20_000,
         roots: 20_000,
     };

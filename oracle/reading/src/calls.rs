@@ -1,7 +1,9 @@
 //! The reading behind the boundary of the exported calls.
 
 use crate::walk::Answer;
-use crate::{boxes, builder, normals as refill, sky as skies, triangles, walk as walker};
+use crate::{
+    boxes, builder, normals as refill, sky as skies, triangles, walk as walker, watts as weighed,
+};
 use crate::{Numbers, Told};
 
 pub fn build(
@@ -73,6 +75,40 @@ pub fn sky(
     let (number, place) = answer.map_or_else(|refusal| (refusal.number, refusal.at), |()| (0, 0));
     *at = [place];
     number
+}
+
+#[allow(clippy::too_many_arguments)]
+pub fn watts(
+    triangles: &[f64],
+    materials: &[u32],
+    index: &[u32],
+    boxes: &[f64],
+    links: &[u32],
+    rays: &[f64],
+    weights: &[u32],
+    times: &mut [f64],
+    told: &mut [u64],
+    report: &mut [u64; 6],
+    at: &mut [u64; 1],
+) -> u32 {
+    let answer = weighed::watts(
+        triangles, materials, index, boxes, links, rays, weights, times, told,
+    );
+    match answer {
+        Ok(figures) => {
+            (*report, *at) = (figures, [0]);
+            0
+        }
+        Err(refusal) => {
+            *at = [refusal.at];
+            refusal.number
+        }
+    }
+}
+
+pub fn share(shaded: u64, open: u64, share: &mut [u64; 2]) -> u32 {
+    *share = weighed::share(shaded, open);
+    0
 }
 
 pub fn slab(bounds: &[f64; 6], ray: &[f64; 6], times: &mut [f64; 2]) -> u32 {

@@ -15,6 +15,7 @@ pub mod sky;
 pub mod split;
 pub mod triangles;
 pub mod walk;
+pub mod watts;
 
 /// n is at most this.
 pub const MOST_TRIANGLES: usize = 65_536;

@@ -14,6 +14,8 @@ pub const PIGEONMAST: Calls = Calls {
     root: raw::root,
     new: raw::new,
     normals: raw::normals,
+    watts: raw::watts,
+    share: raw::share,
 };
 
 /// A clear line, and the status of bad usage.

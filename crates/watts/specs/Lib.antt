@@ -1,0 +1,4 @@
+pub mod Share
+pub mod Watts
+pub mod Report
+pub mod Cut
