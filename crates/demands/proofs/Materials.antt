@@ -23,7 +23,9 @@ use Rattle.walk.specs.declared.tally.Tally.{Tally}
 use Rattle.walk.specs.declared.turn.Turn.{Turn}
 use Rattle.walk.specs.declared.turn.Turn.the-variants.{Refuse, Missed, Down, Open}
 use Rattle.walk.specs.Answer.{Told}
-use Rattle.walk.specs.Walk.{start, boxed, visit, refused, hitOf, over, onward, run, walk}
+use Rattle.walk.specs.Walk.{start, boxed, refused, hitOf, over, run, walk}
+use Rattle.walk.specs.inner.Turns.{visit, onward}
+use Rattle.walk.proofs.OneMesh.{none-pending, none-left, next-step}
 use Rattle.sky.specs.declared.Place.{Place}
 use Rattle.sky.specs.Sky.{rayCount, placed, placeOf, placeAt, sky}
 use Rattle.sky.proofs.Room.{place-k}
@@ -34,11 +36,11 @@ use Rattle.demands.proofs.NearestHit.{nowhere}
 module _ (s : Lent) (m m′ : List ℕ) (r : Ray) (Q : Told → Told → Type 0) (stop : (k i : ℕ) → Q (refused k i) (refused k i))
     (end : (a : Tally) → Q (over (withMaterials s m .mesh) r a) (over (withMaterials s m′ .mesh) r a)) where
   steps : (left : ℕ) (pending : List ℕ) (a : Tally) → Q (run (withMaterials s m) r left pending a) (run (withMaterials s m′) r left pending a)
-  unfolding run
-  steps zero [] a = end a
-  steps zero (i ∷ rest) a = stop 12 i
-  steps (suc left) [] a = end a
-  steps (suc left) (i ∷ rest) a = go (visit (s .mesh .triangles) (s .tree) r i (length rest) (boxed a)) (steps left)
+  steps zero [] a = rw (none-pending (withMaterials s m) r zero a, none-pending (withMaterials s m′) r zero a) (end a)
+  steps zero (i ∷ rest) a = rw (none-left (withMaterials s m) r i rest a, none-left (withMaterials s m′) r i rest a) (stop 12 i)
+  steps (suc left) [] a = rw (none-pending (withMaterials s m) r (suc left) a, none-pending (withMaterials s m′) r (suc left) a) (end a)
+  steps (suc left) (i ∷ rest) a =
+      rw (next-step (withMaterials s m) r left rest i a, next-step (withMaterials s m′) r left rest i a) (go (visit (s .mesh .triangles) (s .tree) r i (length rest) (boxed a)) (steps left))
     where
       go : (t : Turn) → ((pending : List ℕ) (b : Tally) → Q (run (withMaterials s m) r left pending b) (run (withMaterials s m′) r left pending b))
           → Q (onward t rest (boxed a) (run (withMaterials s m) r left)) (onward t rest (boxed a) (run (withMaterials s m′) r left))

@@ -24,7 +24,8 @@ use Rattle.lent.specs.Permutation.{upTo}
 use Rattle.builder.specs.Build.{room, finished, built}
 use Rattle.lent.specs.Ladder.{triangleCount}
 use Rattle.tree.specs.Node.{linked, nodeAt, sound, leftOf, rightOf}
-use Rattle.walk.specs.Walk.{boxed, replaces, nearer, after, tested, scan, openLeaf, openInternal, opened, judged as scene-judged, visit, hitOf, over, run, walk}
+use Rattle.walk.specs.Steps.{andThen as walk-then, entries, leafBy, internalBy, stepBy, steps}
+use Rattle.walk.specs.Walk.{boxed, replaces, nearer, after, tested, hitOf, over, triangleEntry, run, walk}
 use Rattle.tree.specs.Node.{misfit}
 use Rattle.demands.specs.Handed.{handedAs, handed}
 use Rattle.demands.specs.Probes.{Probe, slabbed, slabbedRoot, split, grown as built-row, walked, Claim, All, builtWhole, rootBox, probes}
@@ -54,7 +55,7 @@ claims (p ∷ ps) h = (claim p (and-l (holds p) (allHold ps) h), claims ps (and-
 
 -- the test, computed over the whole table
 table : T (allHold probes)
-unfolding probes handedAs handed builtWhole rootBox lesser greater plus aabb-minus negated scaled divided least greatest dot minor cross along within allWithin allAtMost allEqual vectorAt pointAt admittedRay emptyBox grown union ofThree extent areaOf area bounded isEmpty usable boxAt sighted aimed sightOn reach first second parallel unlessLater clipped narrowed andThen ahead onAxis throughFrom through slab triangleAt cornersOf boundsOf centroidOf admittedTriangle boundsAt centroidAt edge1 edge2 pvec det invDet tvec qvec uOf vOf tOf judged distanceTo distance faces hitAt boxFrom nodeBox centroidsFrom centroidBox noBin withBox joinBins binOf binFor filled suffixOf weight costOf betterOf sweepFrom tryAxis leafCost bestOfAxes chosen bestSplit moves keepsLeft parted underAt sortsBefore insert sorted ordered settled separated joined decision leafOf grow put boxPut linkPut boxesOf linksOf upTo room firstRefused unadmitted finished built linked nodeAt sound leftOf rightOf boxed replaces nearer after tested scan openLeaf openInternal opened scene-judged visit hitOf over run misfit walk unless firstFailed answered isNan lt le eq add sub mul div neg ofBits ofInt sum round units odd size span climb trailingZeros
+unfolding probes handedAs handed builtWhole rootBox lesser greater plus aabb-minus negated scaled divided least greatest dot minor cross along within allWithin allAtMost allEqual vectorAt pointAt admittedRay emptyBox grown union ofThree extent areaOf area bounded isEmpty usable boxAt sighted aimed sightOn reach first second parallel unlessLater clipped narrowed andThen ahead onAxis throughFrom through slab triangleAt cornersOf boundsOf centroidOf admittedTriangle boundsAt centroidAt edge1 edge2 pvec det invDet tvec qvec uOf vOf tOf judged distanceTo distance faces hitAt boxFrom nodeBox centroidsFrom centroidBox noBin withBox joinBins binOf binFor filled suffixOf weight costOf betterOf sweepFrom tryAxis leafCost bestOfAxes chosen bestSplit moves keepsLeft parted underAt sortsBefore insert sorted ordered settled separated joined decision leafOf grow put boxPut linkPut boxesOf linksOf upTo room firstRefused unadmitted finished built linked nodeAt sound leftOf rightOf boxed replaces nearer after tested hitOf over run misfit walk unless firstFailed answered isNan lt le eq add sub mul div neg ofBits ofInt sum round units odd size span climb trailingZeros walk-then entries leafBy internalBy stepBy steps triangleEntry
 table = tt
 
 -- P1 to P12

@@ -26,7 +26,8 @@ use Rattle.tree.specs.Lent.{Lent, Labelled, nodeCount}
 use Rattle.lent.specs.Limits.{deepest, most-pending}
 use Rattle.lent.specs.Ladder.{triangleCount}
 use Rattle.tree.specs.Node.{sound, leftOf, rightOf}
-use Rattle.walk.specs.Walk.{start, boxed, after, tested, scan, openLeaf, opened, judged, visit, onward, run, walk}
+use Rattle.walk.specs.Walk.{start, boxed, after, tested, run, walk}
+use Rattle.walk.specs.inner.Turns.{scan, openLeaf, opened, judged, visit, onward}
 use Rattle.tree.specs.Tree.{Tree, leaf, internal, boxOf, size, leaves, depth, held}
 use Rattle.tree.specs.Holds.{IsLeaf, IsInternal, Holds, Nested}
 use Rattle.tree.specs.Node.{nodeOf}
@@ -34,7 +35,8 @@ use Rattle.tree.specs.Accepted.{Walkable}
 use Rattle.demands.specs.Reached.{entered, reached, nearest, foundIn}
 use Rattle.tree.specs.Leaves.{rangeOf}
 use Rattle.walk.proofs.VisitEnds.{both-put}
-use Rattle.walk.proofs.LoopInvariant.{none-pending, one-left}
+use Rattle.walk.proofs.OneMesh.{none-pending}
+use Rattle.walk.proofs.LoopInvariant.{one-left}
 use Rattle.walk.proofs.Entering.{entered as walk-entered}
 
 -- ---- counts

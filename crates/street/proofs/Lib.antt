@@ -4,3 +4,5 @@ pub mod ProxyRoom
 mod Raising
 pub mod Sizes
 pub mod Topping
+mod Sightings
+mod AtPlacement

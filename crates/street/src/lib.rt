@@ -4,6 +4,8 @@ pub mod rows; // rows.rt: matrices, and the local ray
 mod placing; // placing.rt: world boxes and proxies
 mod placements; // placements.rt: what is asked of the placements
 mod proxies; // proxies.rt: the proxies, written
+mod sighting; // sighting.rt: a hit in the world
+mod entry; // entry.rt: an entry of a leaf of the top tree
 
 use aabb::Aabb;
 use builder::Built;
@@ -12,6 +14,8 @@ use placements::Standing;
 pub use rows::Local;
 pub use rows::Matrix;
 pub use rows::Row;
+pub use sighting::Seen;
+pub use sighting::Sight;
 ghost use mathlib.Core.Path.{_≡_};
 ghost use Prim.Native.Nat.{_*_, _≤_};
 ghost use lib.ListN.{length};

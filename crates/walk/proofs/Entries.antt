@@ -18,7 +18,8 @@ use Rattle.walk.specs.declared.turn.Turn.the-variants.{Refuse, Down}
 use Rattle.walk.specs.declared.leaf.Verdict.{Verdict}
 use Rattle.walk.specs.declared.leaf.Verdict.the-variants.{Fit, Unfit}
 use Rattle.lent.specs.Ladder.{triangleCount}
-use Rattle.walk.specs.Walk.{after, tested, scan}
+use Rattle.walk.specs.Walk.{after, tested}
+use Rattle.walk.specs.inner.Turns.{scan}
 use Rattle.walk.specs.inner.State.{verdict, nearestOf}
 
 -- ---- the first pass

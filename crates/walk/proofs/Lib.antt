@@ -1,4 +1,6 @@
 mod PendingList
+pub mod AnySteps
+pub mod OneMesh
 mod Entries
 pub mod VisitEnds
 mod Visits

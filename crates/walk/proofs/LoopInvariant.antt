@@ -12,9 +12,11 @@ use Rattle.walk.specs.declared.turn.Turn.{Turn}
 use Rattle.walk.specs.declared.turn.Turn.the-variants.{Refuse, Missed, Down, Open}
 use Rattle.tree.specs.Lent.{Lent, nodeCount}
 use Rattle.lent.specs.Limits.{most-pending, most-nodes}
-use Rattle.walk.specs.Walk.{start, boxed, visit, refused, over, onward, run}
+use Rattle.walk.specs.Walk.{start, boxed, refused, over, run}
+use Rattle.walk.specs.inner.Turns.{visit, onward}
 use Rattle.walk.specs.inner.State.{top, pending, besides, Ready}
 use Rattle.walk.proofs.PendingList.{taken, length-top}
+use Rattle.walk.proofs.OneMesh.{next-step, none-pending, none-left}
 use Rattle.walk.proofs.Visits.{Counted, Opens, Leaves, visited}
 
 -- each number is below n
@@ -31,18 +33,8 @@ pub record Going (s : Lent) (r : Ray) (n : ℕ) (p : Pending) (a : Tally) : Type
   pub counted : a .triangles ≤ a .boxes * 2 ^ 32
   pub same : run s r (n - a .boxes) (pending p) a ≡ run s r n (0 ∷ []) start
 
-pub none-pending : (s : Lent) (r : Ray) (left : ℕ) (a : Tally) → run s r left [] a ≡ over (s .mesh) r a
-unfolding run
-none-pending s r zero a = refl
-none-pending s r (suc left) a = refl
-
-none-left : (s : Lent) (r : Ray) (left i : ℕ) (rest : List ℕ) (a : Tally) → left ≡ 0 → run s r left (i ∷ rest) a ≡ refused 12 i
-unfolding run
-none-left s r left i rest a e = rw e
-
 pub one-left : (s : Lent) (r : Ray) (left more i : ℕ) (rest : List ℕ) (a : Tally) → left ≡ suc more → run s r left (i ∷ rest) a ≡ onward (visit (s .mesh .triangles) (s .tree) r i (length rest) (boxed a)) rest (boxed a) (run s r more)
-unfolding run
-one-left s r left more i rest a e = rw e
+one-left s r left more i rest a e = ap (λ (k : ℕ). run s r k (i ∷ rest) a) e ∙ next-step s r more rest i a
 
 pub begun : (s : Lent) (r : Ray) (p : Pending) → 0 < nodeCount (s .tree .links) → nodeCount (s .tree .links) ≤ most-nodes → p .len ≡ 1 → pending p ≡ 0 ∷ [] → Going s r (nodeCount (s .tree .links)) p start
 begun s r p h m l f = record {
@@ -75,7 +67,7 @@ module _ {s : Lent} {r : Ray} {n : ℕ} {p : Pending} {a : Tally} (G : Going s r
 
   -- and no box test is left
   pub spent : n ≤ a .boxes → refused 12 (lastOf p) ≡ run s r n (0 ∷ []) start
-  spent h = sym (none-left s r (n - a .boxes) (lastOf p) (besides p) a (omega arith)) ∙ apart
+  spent h = let z : n - a .boxes ≡ 0 = omega arith in sym (ap (λ (k : ℕ). run s r k (lastOf p ∷ besides p) a) z ∙ none-left s r (lastOf p) (besides p) a) ∙ apart
 
 -- its box test is counted
 pub record Counting (s : Lent) (r : Ray) (n : ℕ) (p : Pending) (a b : Tally) : Type 0 where

@@ -21,7 +21,7 @@ use Rattle.tree.specs.declared.Node.{Node}
 use Rattle.tree.specs.Lent.{Lists, nodeCount}
 use Rattle.lent.specs.Limits.{most-pending}
 use Rattle.tree.specs.Node.{leftOrFirst, nodeOf, sound, leftOf, rightOf}
-use Rattle.walk.specs.Walk.{scan, openLeaf, openInternal, opened, judged, visit}
+use Rattle.walk.specs.inner.Turns.{scan, openLeaf, openInternal, opened, judged, visit}
 
 -- ---- a leaf
 module _ (mesh : List Float) (index : List ℕ) (r : Ray) (i : ℕ) (x : Node) (a : Tally) where

@@ -21,7 +21,8 @@ use Rattle.tree.specs.Lent.{Lists, nodeCount}
 use Rattle.lent.specs.Limits.{most-pending}
 use Rattle.lent.specs.Ladder.{triangleCount}
 use Rattle.tree.specs.Node.{leftOrFirst, linked, nodeAt, nodeOf, sound, leftOf, rightOf}
-use Rattle.walk.specs.Walk.{tested, scan, openLeaf, openInternal, opened, judged, visit}
+use Rattle.walk.specs.Walk.{tested}
+use Rattle.walk.specs.inner.Turns.{scan, openLeaf, openInternal, opened, judged, visit}
 
 -- so many box tests, and at most so many triangle tests
 pub record Counted (boxes triangles : ℕ) (a : Tally) : Type 0 where

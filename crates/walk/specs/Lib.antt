@@ -1,3 +1,4 @@
 pub mod Answer
+pub mod Steps
 pub mod Walk
 pub mod inner

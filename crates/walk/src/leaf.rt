@@ -9,7 +9,7 @@ use tree::Node;
 ghost use mathlib.Core.Path.{_≡_};
 ghost use Prim.Native.Nat.{_+_, _<_, _≤_, _^_};
 ghost use lib.ListN.{length};
-ghost use Rattle.walk.specs.Walk.{scan, openLeaf};
+ghost use Rattle.walk.specs.inner.Turns.{scan, openLeaf};
 ghost use Rattle.walk.specs.inner.State.{verdict, nearestOf};
 
 // Whether a walk can test every entry of a leaf.

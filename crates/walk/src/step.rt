@@ -10,7 +10,7 @@ ghost use Prim.Native.Nat.{_≤_};
 ghost use Rattle.aabb.specs.Slab.{aimed};
 ghost use Rattle.tree.specs.Lent.{listsOf};
 ghost use Rattle.lent.specs.Limits.{most-nodes, most-pending};
-ghost use Rattle.walk.specs.Walk.{openInternal, visit};
+ghost use Rattle.walk.specs.inner.Turns.{openInternal, visit};
 ghost use Rattle.walk.specs.inner.State.{Ready};
 
 // An internal node whose box is passed, with `besides` pending besides. Right is left + 1: where it is a node, so is left.

@@ -24,7 +24,9 @@ use Rattle.walk.specs.declared.tally.Tally.{Tally}
 use Rattle.walk.specs.declared.turn.Turn.{Turn}
 use Rattle.walk.specs.declared.turn.Turn.the-variants.{Refuse, Missed, Down, Open}
 use Rattle.walk.specs.Answer.{Told}
-use Rattle.walk.specs.Walk.{start, boxed, tested, scan, openLeaf, openInternal, opened, judged, visit, refused, over, onward, run, walk}
+use Rattle.walk.specs.Walk.{start, boxed, tested, refused, over, run, walk}
+use Rattle.walk.specs.inner.Turns.{scan, openLeaf, openInternal, opened, judged, visit, onward}
+use Rattle.walk.proofs.OneMesh.{none-pending, none-left, next-step}
 use Rattle.sky.specs.Sky.{placed, placeOf, placeFor}
 use Rattle.watts.specs.Watts.{outcomeFor}
 
@@ -97,11 +99,12 @@ next (Down b) rest a go p q = q rest b
 next (Open left right) rest a go p q = q (left ∷ right ∷ rest) a
 
 ran : (s : Lent) (r : Ray) (left : ℕ) (pending : List ℕ) (a : Tally) → Numbered (run s r left pending a)
-unfolding run
-ran s r zero [] a = finished (s .mesh) r a
-ran s r zero (i ∷ rest) a = answer 12 i (omega arith, omega arith)
-ran s r (suc left) [] a = finished (s .mesh) r a
-ran s r (suc left) (i ∷ rest) a = next (visit (s .mesh .triangles) (s .tree) r i (length rest) (boxed a)) rest (boxed a) (run s r left) (visited (s .mesh .triangles) (s .tree) r i (length rest) (boxed a)) (ran s r left)
+ran s r zero [] a = rw (none-pending s r zero a) (finished (s .mesh) r a)
+ran s r zero (i ∷ rest) a = rw (none-left s r i rest a) (answer 12 i (omega arith, omega arith))
+ran s r (suc left) [] a = rw (none-pending s r (suc left) a) (finished (s .mesh) r a)
+ran s r (suc left) (i ∷ rest) a =
+    rw (next-step s r left rest i a)
+    (next (visit (s .mesh .triangles) (s .tree) r i (length rest) (boxed a)) rest (boxed a) (run s r left) (visited (s .mesh .triangles) (s .tree) r i (length rest) (boxed a)) (ran s r left))
 
 laddered : (checks : List Check) (served : Told) → Every (λ c. Own (c .number)) checks → Numbered served → Numbered (unless checks refused served)
 unfolding unless firstFailed answered

@@ -8,7 +8,7 @@ use Rattle.aabb.specs.declared.vector.Ray.{Ray}
 use Rattle.tree.specs.Lent.{Lent, lent, nodeCount}
 use Rattle.lent.specs.Limits.{most-pending}
 use Rattle.walk.specs.Answer.{told}
-use Rattle.walk.specs.Walk.{visit}
+use Rattle.walk.specs.inner.Turns.{visit}
 use Rattle.walk.proofs.VisitEnds.{its-ray, its-own}
 use Rattle.walk.proofs.LoopInvariant.{Going, begun, ended, lastOf, all-below, spent, Counting, one-box, ready, stopped, missed, down-box, down, open-room, opens}
 use Rattle.walk.proofs.PendingList.{fewer, opened-last, root-last}
