@@ -153,7 +153,7 @@ int main(void)
     /* A4: a mesh written as STL and read back; a header and attributes that are not zero. */
     uint8_t file[286];
     double back[25];
-    uint32_t materials[3] = {9, 9, 9};
+    uint32_t kinds[3] = {9, 9, 9};
     for (size_t k = 0; k < sizeof file; k++)
         file[k] = 9;
     for (size_t k = 0; k < 25; k++)
@@ -171,14 +171,14 @@ int main(void)
     HOLDS(file + 80, 2, 0, 0, 0, 0, 0, 0, 0, 0, 0, 0, 0, 0, 0, 128, 63); /* the count, then the normal 0, 0, 1 */
     HOLDS(file + 184, 9);
     file[0] = 's', file[133] = 7;
-    ANSWERS(pigeonmast_read_stl(file, 183, back, 25, materials, 3, at), PIGEONMAST_FILE_LENGTH);
-    ANSWERS(pigeonmast_read_stl(file, 184, back, 23, materials, 3, at), PIGEONMAST_ROOM_TOO_SHORT);
-    ANSWERS(pigeonmast_read_stl(file, 184, back, 24, materials, 1, at), PIGEONMAST_ROOM_TOO_SHORT);
+    ANSWERS(pigeonmast_read_stl(file, 183, back, 25, kinds, 3, at), PIGEONMAST_FILE_LENGTH);
+    ANSWERS(pigeonmast_read_stl(file, 184, back, 23, kinds, 3, at), PIGEONMAST_ROOM_TOO_SHORT);
+    ANSWERS(pigeonmast_read_stl(file, 184, back, 24, kinds, 1, at), PIGEONMAST_ROOM_TOO_SHORT);
     HOLDS(back, 9);
-    HOLDS(materials, 9);
-    ANSWERS(pigeonmast_read_stl(file, 184, back, 25, materials, 3, at), 0);
+    HOLDS(kinds, 9);
+    ANSWERS(pigeonmast_read_stl(file, 184, back, 25, kinds, 3, at), 0);
     HOLDS(at, 2);
-    HOLDS(materials, 0, 0, 9);
+    HOLDS(kinds, 0, 0, 9);
     HOLDS(back, 0, 0, 0, 3, 0, 0, 0, 3, 0, 0, 0, 1, 0, 0x1p-149, 0, 19, 0, 0, 16, 3, 0, 0, 0, 1, 9);
     ANSWERS(1 / back[12], -1 / 0.0);
     return differ;
