@@ -24,7 +24,7 @@ use Rattle.demands.proofs.Demand.{signed-tree, built-tree}
 use Rattle.demands.proofs.Sky.{signed-sky}
 
 -- rule G2 speaks of no material
-relabelled : (s : Lent) (t : Tree) (materials : List ℕ) → Accepted s t → Accepted (withMaterials s materials) t
+pub relabelled : (s : Lent) (t : Tree) (materials : List ℕ) → Accepted s t → Accepted (withMaterials s materials) t
 relabelled s t materials A =
     let w = A .walkable in
     record {

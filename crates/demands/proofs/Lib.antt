@@ -10,4 +10,5 @@ pub mod Sky
 pub mod Materials
 pub mod Surveying
 pub mod Accepting
+pub mod InnerNodes
 pub mod FromFile

@@ -250,7 +250,7 @@ all-cond : (P : ℕ → Type 0) (q : Bool) (ps : List ℕ) → Every P ps → Ev
 all-cond P true ps a = a
 all-cond P false ps a = tt
 
-in-index : (s : Lent) (r : Ray) (t : Tree) (i : ℕ) → Holds (s .tree) i t → Every (λ p. p < length (s .tree .index)) (reached r t)
+pub in-index : (s : Lent) (r : Ray) (t : Tree) (i : ℕ) → Holds (s .tree) i t → Every (λ p. p < length (s .tree .index)) (reached r t)
 in-index s r (leaf b p c) i H = all-cond _ (passes r b) (rangeOf c p) (all-range (length (s .tree .index)) c p (H .inside))
 in-index s r (internal b u v) i H = all-append _ (reached r u) (reached r v) (in-index s r u _ (H .1)) (in-index s r v _ (H .2))
 

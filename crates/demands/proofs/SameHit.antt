@@ -34,16 +34,16 @@ use Rattle.lent.specs.Members.{Member}
 use Rattle.demands.proofs.NearestHit.{Finite, hitAmong, nearest-at, nothing-at, nowhere, all-finite, reached-admitted, walk-hit}
 
 -- ---- some of a list
-some-left : {A : Type 0} (P : A → Type 0) (xs ys : List A) → Some P xs → Some P (xs ++ ys)
+pub some-left : {A : Type 0} (P : A → Type 0) (xs ys : List A) → Some P xs → Some P (xs ++ ys)
 some-left P [] ys h = absurd h
 some-left P (x ∷ xs) ys (inl h) = inl h
 some-left P (x ∷ xs) ys (inr h) = inr (some-left P xs ys h)
 
-some-right : {A : Type 0} (P : A → Type 0) (xs ys : List A) → Some P ys → Some P (xs ++ ys)
+pub some-right : {A : Type 0} (P : A → Type 0) (xs ys : List A) → Some P ys → Some P (xs ++ ys)
 some-right P [] ys h = h
 some-right P (x ∷ xs) ys h = inr (some-right P xs ys h)
 
-some-either : {A : Type 0} (P : A → Type 0) (xs ys : List A) → Some P (xs ++ ys) → Some P xs ⊎ Some P ys
+pub some-either : {A : Type 0} (P : A → Type 0) (xs ys : List A) → Some P (xs ++ ys) → Some P xs ⊎ Some P ys
 some-either P [] ys h = inr h
 some-either P (x ∷ xs) ys (inl h) = inl (inl h)
 some-either P (x ∷ xs) ys (inr h) = go (some-either P xs ys h)
@@ -53,17 +53,17 @@ some-either P (x ∷ xs) ys (inr h) = go (some-either P xs ys h)
     go (inr i) = inr i
 
 -- one of them, and what holds of it
-some-one : {A : Type 0} (P : A → Type 0) (xs : List A) → Some P xs → (x : A) × Member x xs × P x
+pub some-one : {A : Type 0} (P : A → Type 0) (xs : List A) → Some P xs → (x : A) × Member x xs × P x
 some-one P [] h = absurd h
 some-one P (x ∷ xs) (inl h) = (x, inl refl, h)
 some-one P (x ∷ xs) (inr h) = let w = some-one P xs h in (w .0, inr (w .1), w .2)
 
-one-some : {A : Type 0} (P : A → Type 0) (xs : List A) (x : A) → Member x xs → P x → Some P xs
+pub one-some : {A : Type 0} (P : A → Type 0) (xs : List A) (x : A) → Member x xs → P x → Some P xs
 one-some P [] x i h = absurd i
 one-some P (y ∷ ys) x (inl i) h = inl (rw (← i) h)
 one-some P (y ∷ ys) x (inr i) h = inr (one-some P ys x i h)
 
-all-one : (P : ℕ → Type 0) (ps : List ℕ) → Every P ps → (p : ℕ) → Member p ps → P p
+pub all-one : (P : ℕ → Type 0) (ps : List ℕ) → Every P ps → (p : ℕ) → Member p ps → P p
 all-one P [] a p i = absurd i
 all-one P (q ∷ ps) a p (inl i) = rw i (a .0)
 all-one P (q ∷ ps) a p (inr i) = all-one P ps (a .1) p i
@@ -151,10 +151,10 @@ numbers-append s (p ∷ ps) qs = ap (λ (l : List ℕ). getD (s .tree .index) p 
 
 module _ (s : Lent) (r : Ray) (k : ℕ) where
   -- leaf x is passed and holds k
-  abbrev Holding : Leaf → Type 0
+  abbrev pub Holding : Leaf → Type 0
   Holding x = T (passes r (x .box)) × Member k (x .holds)
 
-  of-leaf : (t : Tree) → Member k (numbers (s .tree) (reached r t)) → Some Holding (leavesOf (s .tree) t)
+  pub of-leaf : (t : Tree) → Member k (numbers (s .tree) (reached r t)) → Some Holding (leavesOf (s .tree) t)
   of-leaf (leaf b p c) h = go (passes r b) refl h
     where
       go : (q : Bool) → passes r b ≡ q → Member k (numbers (s .tree) (cond q (rangeOf c p) [])) → Some Holding (leavesOf (s .tree) (leaf b p c))
@@ -167,7 +167,7 @@ module _ (s : Lent) (r : Ray) (k : ℕ) where
       go (inl i) f g = some-left Holding (leavesOf (s .tree) u) (leavesOf (s .tree) v) (f i)
       go (inr i) f g = some-right Holding (leavesOf (s .tree) u) (leavesOf (s .tree) v) (g i)
 
-  to-leaf : (t : Tree) → Some Holding (leavesOf (s .tree) t) → Member k (numbers (s .tree) (reached r t))
+  pub to-leaf : (t : Tree) → Some Holding (leavesOf (s .tree) t) → Member k (numbers (s .tree) (reached r t))
   to-leaf (leaf b p c) (inr h) = absurd h
   to-leaf (leaf b p c) (inl h) = go (passes r b) (h .0)
     where

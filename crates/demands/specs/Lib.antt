@@ -3,6 +3,7 @@ pub mod Probes
 pub mod Reached
 pub mod NearestHit
 pub mod SameLeaves
+pub mod InnerNodes
 pub mod Demand
 pub mod Materials
 pub mod Sky

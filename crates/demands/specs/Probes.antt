@@ -1,4 +1,4 @@
--- The probe table, P1 to P12: what is asked, and every number that must come of it. Definitions only.
+-- The probe table, P1 to P13: what is asked, and every number that must come of it. Definitions only.
 use Prim.Native.Nat.{ℕ, zero, suc, _+_, _*_}
 use mathlib.Core.Path.{_≡_}
 use mathlib.Core.Bool.{Bool, true, false}
@@ -25,6 +25,7 @@ use Rattle.lent.specs.Ladder.{triangleCount}
 use Rattle.lent.specs.Ladder.{none}
 use Rattle.walk.specs.Answer.{Told}
 use Rattle.walk.specs.Walk.{walk}
+use Rattle.tree.specs.Lent.{Lent, lent}
 use Rattle.demands.specs.Handed.{handed}
 
 -- ---- numbers: n, for a whole n that is odd or 0; m·2^k; m/2^k (k from 1); and their negatives
@@ -56,6 +57,8 @@ pub data Probe : Type 0 where
   grown : List Float → Outcome → Probe
   -- a ray walked through the built tree of a mesh with these materials
   walked : List Float → List ℕ → Ray → Told → Probe
+  -- a ray walked through these lists
+  walkedIn : Lent → Ray → Told → Probe
 
 -- built in room that just suffices
 unfoldable pub builtWhole : List Float → Outcome
@@ -71,6 +74,7 @@ Claim (slabbedRoot mesh r s) = slab r (rootBox mesh) ≡ s
 Claim (split mesh d) = decision mesh (upTo (triangleCount mesh)) ≡ d
 Claim (grown mesh o) = builtWhole mesh ≡ o
 Claim (walked mesh materials r t) = walk (handed mesh materials (builtWhole mesh)) r ≡ t
+Claim (walkedIn s r t) = walk s r ≡ t
 
 -- every row's claim
 abbrev pub All : List Probe → Type 0
@@ -129,6 +133,25 @@ kinds = 80 ∷ 81 ∷ 82 ∷ 83 ∷ 84 ∷ []
 abbrev along-x : Float → Float → List Float
 along-x a b = a ∷ int 0 ∷ int 0 ∷ b ∷ int 3 ∷ int 0 ∷ []
 
+-- three in a row along x, with legs of 1, one every 10, and two trees over one leaf each: the first two are below one node, or the last two
+abbrev three : List Float
+three = T ++ triangle (times 5 1) (int 11) (int 1) ++ triangle (times 5 2) (int 21) (int 1)
+
+abbrev strip : Float → Float → List Float
+strip a b = a ∷ int 0 ∷ int 0 ∷ b ∷ int 1 ∷ int 0 ∷ []
+
+abbrev first-two : Lent
+first-two =
+    lent three (70 ∷ 71 ∷ 72 ∷ []) (0 ∷ 1 ∷ 2 ∷ [])
+    (strip (int 0) (int 21) ++ strip (int 0) (int 11) ++ strip (times 5 2) (int 21) ++ strip (int 0) (int 1) ++ strip (times 5 1) (int 11))
+    (1 ∷ 0 ∷ 0 ∷ 3 ∷ 0 ∷ 0 ∷ 2 ∷ 1 ∷ 1 ∷ 0 ∷ 1 ∷ 1 ∷ 1 ∷ 1 ∷ 1 ∷ [])
+
+abbrev last-two : Lent
+last-two =
+    lent three (70 ∷ 71 ∷ 72 ∷ []) (0 ∷ 1 ∷ 2 ∷ [])
+    (strip (int 0) (int 21) ++ strip (int 0) (int 1) ++ strip (times 5 1) (int 21) ++ strip (times 5 1) (int 11) ++ strip (times 5 2) (int 21))
+    (1 ∷ 0 ∷ 0 ∷ 0 ∷ 1 ∷ 1 ∷ 3 ∷ 0 ∷ 0 ∷ 1 ∷ 1 ∷ 1 ∷ 2 ∷ 1 ∷ 1 ∷ [])
+
 -- ---- the table
 unfoldable pub probes : List Probe
 probes =
@@ -166,4 +189,7 @@ probes =
     walked five kinds (down (int 17) (int 1) (int 1)) (struck (int 1) (vec (int 17) (int 1) (int 0)) up third third true 1 81 3 2) ∷
     -- P12: down between the leaves' boxes: three box tests, no triangle test
     walked five kinds (down (int 25) (int 1) (int 1)) (missed 3 0) ∷
+    -- P13: three leaves, put together in two ways: the same hit, and five box tests or three
+    walkedIn first-two (down quarter quarter (int 1)) (struck (int 1) (vec quarter quarter (int 0)) up quarter quarter true 0 70 5 1) ∷
+    walkedIn last-two (down quarter quarter (int 1)) (struck (int 1) (vec quarter quarter (int 0)) up quarter quarter true 0 70 3 1) ∷
     []

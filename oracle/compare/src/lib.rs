@@ -12,6 +12,7 @@ pub mod normal_check;
 pub mod random;
 pub mod rays;
 pub mod reading_check;
+pub mod rearranged_check;
 pub mod replay;
 pub mod root_check;
 pub mod run;

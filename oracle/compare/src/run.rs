@@ -5,7 +5,7 @@ use crate::mesh_check::{self, Case, Tally};
 use crate::random::Random;
 use crate::{
     accept_check, foreign_check, functions, hostile, meshes, node_room, normal_check, rays,
-    reading_check, root_check, show, sky_check, stl_check, watts_check, Lists,
+    reading_check, rearranged_check, root_check, show, sky_check, stl_check, watts_check, Lists,
 };
 use std::collections::BTreeMap;
 
@@ -24,6 +24,8 @@ pub struct Plan {
     pub accepts: usize,
     /// Files read, and as many meshes written.
     pub files: usize,
+    /// Built trees whose leaves are put together another way.
+    pub rearranged: usize,
 }
 
 pub const QUICK: Plan = Plan {
@@ -39,6 +41,7 @@ pub const QUICK: Plan = Plan {
     roots: 1_000_000,
     accepts: 300_000,
     files: 5_000,
+    rearranged: 1_000,
 };
 
 pub const LONG: Plan = Plan {
@@ -54,6 +57,7 @@ pub const LONG: Plan = Plan {
     roots: 100_000_000,
     accepts: 6_000_000,
     files: 100_000,
+    rearranged: 10_000,
 };
 
 /// Prints as it goes. Answers how many differed.
@@ -70,6 +74,7 @@ pub fn all(calls: &Calls, plan: &Plan) -> u64 {
         every_normal(calls, plan),
         every_accept(calls, plan),
         every_file(calls, plan),
+        every_rearranged(calls, plan),
     ];
     parts.iter().sum()
 }
@@ -491,6 +496,31 @@ fn every_file(calls: &Calls, plan: &Plan) -> u64 {
     println!(
         "STL, seed {}: files read {read:?}, meshes written {written:?}",
         plan.seed ^ 11
+    );
+    found.end()
+}
+
+/// Built trees beside others with the same leaves, 100 rays each.
+fn every_rearranged(calls: &Calls, plan: &Plan) -> u64 {
+    let mut found = Found::default();
+    let mut r = Random::new(plan.seed ^ 16);
+    let mut whole = [0_u64; 2];
+    for k in 0..plan.rearranged {
+        let n = size(&mut r);
+        let mesh = meshes::KINDS[k % meshes::KINDS.len()].1(&mut r, n);
+        let rays: Vec<_> = (0..100)
+            .map(|_| rays::KINDS[r.below(rays::KINDS.len())].1(&mut r, &mesh))
+            .collect();
+        match rearranged_check::check(calls, &mut r, &mesh, &rays) {
+            Ok([walked, differ]) => whole = [whole[0] + walked, whole[1] + differ],
+            Err(why) => found.add(mesh.len(), || format!("  {why}\n  {}", show::bits(&mesh))),
+        }
+    }
+    let [walked, differ] = whole;
+    println!(
+        "leaves put together another way, seed {}: {} meshes, {walked} rays, {differ} with other box tests",
+        plan.seed ^ 16,
+        plan.rearranged
     );
     found.end()
 }

@@ -19,6 +19,7 @@ fn the_reading_is_the_rust() {
         roots: 20_000,
         accepts: 1_000,
         files: 2_000,
+        rearranged: 100,
     };
     assert_eq!(all(&READING, &plan), 0);
 }
