@@ -41,6 +41,9 @@ use Rattle.trusted.proofs.Exactly.{accept-exactly}
 use Rattle.sky.specs.Sky.{rayCount, placed, placeOf, placeAt, sky}
 use Rattle.sky.proofs.Room.{place-k}
 use Rattle.demands.specs.Reached.{reached}
+use Rattle.builder.specs.Reply.{servedReply}
+use Rattle.builder.specs.Build.{built}
+use Rattle.demands.specs.Handed.{handed}
 use Rattle.demands.specs.Materials.{withMaterials}
 use Rattle.demands.proofs.Accepting.{relabelled}
 use Rattle.demands.specs.Demand.{Demand3}
@@ -49,7 +52,7 @@ use Rattle.demands.specs.InnerNodes.{SameVector, SameBox, Alike, SameCol
 use Rattle.demands.proofs.Walking.{reached-most}
 use Rattle.demands.proofs.SameHit.{all-one, some-one, one-some, some-either, some-left, some-right, Holding, of-leaf, to-leaf, same-hit}
 use Rattle.demands.proofs.NearestHit.{in-index}
-use Rattle.demands.proofs.Demand.{demand-3}
+use Rattle.demands.proofs.Demand.{demand-3, labelled, built-tree}
 
 -- ---- boxes that are numerically equal are passed alike
 eq-le : (x y : Float) → T (eq x y) → T (le x y)
@@ -359,6 +362,23 @@ accepted-agree κs x r e p f κs′ x′ r′ e′ p′ f′ same materials M t 
       other-accepted = held-by _ t′ h′ H′ materials;
       same = C;
     }) M ray R
+
+-- ---- of a tree that was built, beside any other with its leaves: another order of the index list within a leaf or of the leaves, other inner nodes and numbers
+pub built-agree : (mesh : List Float) (materials index : List ℕ) (boxes : List Float) (links : List ℕ) (nodes leaf-count : ℕ) → built mesh index boxes links .answer ≡ servedReply nodes leaf-count
+    → length materials ≡ triangleCount mesh → let s = handed mesh materials (built mesh index boxes links) in
+    (s′ : Lent) (t t′ : Tree) → s .mesh ≡ s′ .mesh → Holds (s .tree) 0 t → Accepted s′ t′ → SameCollection (leavesOf (s .tree) t) (leavesOf (s′ .tree) t′)
+    → (ray : Ray) → T (admittedRay ray) → Agree (walk s ray) (walk s′ ray)
+built-agree mesh materials index boxes links nodes leaf-count e M s′ t t′ same H A C ray R =
+    let s = handed mesh materials (built mesh index boxes links) in
+    let h = built-tree mesh materials index boxes links nodes leaf-count e in
+    agree s s′ (record {
+      mesh = same;
+      tree = t;
+      other = t′;
+      accepted = subst (Accepted s) (one-tree (s .tree) 0 (h .tree) t (h .accepted .walkable .holds) H) (h .accepted);
+      other-accepted = A;
+      same = C;
+    }) (labelled mesh materials index boxes links nodes leaf-count e M) ray R
 
 -- ---- and of each place of a sky
 places-alike : (a b : Told) → Agree a b → AgreeAt (placeOf a) (placeOf b)
