@@ -13,12 +13,12 @@ use lib.Dec.{T, eqb, leb, ltb, eqb→eq}
 use lib.ListN.{length, getD, length-append}
 use lib.Ieee.{Float, nan, inf, fin, lt, eq, le, level, up, down}
 use lib.Ieee.Fits.{and-i, and-l, and-r, eq→eqb}
-use Rattle.float.proofs.Cases.{or-r}
+use Rattle.float.proofs.Cases.{or-l, or-r}
 use Rattle.aabb.specs.declared.vector.Vec3.{Vec3}
 use Rattle.aabb.specs.declared.vector.Ray.{Ray}
 use Rattle.aabb.specs.declared.bounds.Aabb.{Aabb}
 use Rattle.aabb.specs.Vector.{admittedRay, all, allAtMost, rayAt}
-use Rattle.aabb.specs.Bounds.{bounded, usable, contains}
+use Rattle.aabb.specs.Bounds.{bounded, isEmpty, usable, contains}
 use Rattle.aabb.specs.Slab.{passes}
 use Rattle.aabb.proofs.Inside.{usable-inside}
 use Rattle.lent.specs.Ladder.{none, triangleCount}
@@ -97,6 +97,19 @@ vectors-le a b e = both (le (a .x) (b .x)) (le (a .y) (b .y)) (le (a .z) (b .z))
 passed-too : (r : Ray) (b a : Aabb) → T (admittedRay r) → T (usable b) → T (bounded a) → SameBox b a → T (passes r a) → T (passes r b)
 unfolding contains
 passed-too r b a R B A e = usable-inside r b a R B A (and-i (allAtMost (b .min) (a .min)) (allAtMost (a .max) (b .max)) (vectors-le (b .min) (a .min) (e .0)) (vectors-le (a .max) (b .max) (vectors-turned (b .max) (a .max) (e .1))))
+
+-- the slab test's answer on numerically equal boxes is the same
+pub passed-alike : (r : Ray) (a b : Aabb) → T (admittedRay r) → T (bounded a) → T (bounded b) → SameBox a b → passes r a ≡ passes r b
+unfolding usable
+passed-alike r a b R A B e =
+    let back : SameBox b a = (vectors-turned (a .min) (b .min) (e .0), vectors-turned (a .max) (b .max) (e .1)) in
+    go (passes r a) (passes r b) (passed-too r b a R (or-l (bounded b) (isEmpty b) B) A back) (passed-too r a b R (or-l (bounded a) (isEmpty a) A) B e)
+  where
+    go : (p q : Bool) → (T p → T q) → (T q → T p) → p ≡ q
+    go true true f g = refl
+    go false false f g = refl
+    go true false f g = absurd (f tt)
+    go false true f g = absurd (g tt)
 
 -- ---- one of the leaves for each
 alike-turned : (x y : Leaf) → Alike x y → Alike y x
