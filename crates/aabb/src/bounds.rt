@@ -5,7 +5,7 @@ ghost use Rattle.aabb.specs.Bounds.{empty_box, of_three, grown, union, widened, 
 use crate::vector;
 use crate::vector::Vec3;
 
-#[derive(Drop)]
+#[derive(Clone, Copy)]
 pub struct Aabb {
     pub min: Vec3,
     pub max: Vec3,

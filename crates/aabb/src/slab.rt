@@ -7,14 +7,14 @@ use crate::bounds::Aabb;
 use crate::vector::Ray;
 
 // The times at which a ray enters and leaves a box, or that it misses it.
-#[derive(Drop)]
+#[derive(Clone, Copy)]
 pub enum Span {
     Passed { enter: f64, exit: f64 },
     Missed,
 }
 
 // One axis of a ray: its origin there, 1/dir, and whether |dir| < 1e-12.
-#[derive(Drop)]
+#[derive(Clone, Copy)]
 pub struct Sight {
     pub origin: f64,
     pub inv: f64,
@@ -22,7 +22,7 @@ pub struct Sight {
 }
 
 // A ray, and its three axes.
-#[derive(Drop)]
+#[derive(Clone, Copy)]
 pub struct Aim {
     pub ray: Ray,
     pub x: Sight,

@@ -2,7 +2,7 @@
 ghost use Rattle.std.specs.Prelude.{◌≡◌, ◌*◌, min, length};
 ghost use Rattle.aabb.specs.Vector.{plus, minus, negated, scaled, divided, dot, cross, least, greatest, lowest, highest, along, within, all_within, all_at_most, all_equal, vector_at, point_at, ray_at, admitted_ray, number_at};
 
-#[derive(Drop)]
+#[derive(Clone, Copy)]
 pub struct Vec3 {
     pub x: f64,
     pub y: f64,
@@ -236,7 +236,7 @@ pub fn place(numbers: &[f64], i: usize, width: usize) -> usize
     numbers.len()
 }
 
-#[derive(Drop)]
+#[derive(Clone, Copy)]
 pub struct Ray {
     pub origin: Vec3,
     pub direction: Vec3,

@@ -1,7 +1,7 @@
 // Where a condition breaks first: a node, or an entry of the index list. And a lent list filled.
 ghost use Rattle.std.specs.Prelude.{◌≡◌, length, replicate};
 
-#[derive(Drop)]
+#[derive(Clone, Copy)]
 pub enum Breach {
     At(usize),
     Nowhere,

@@ -1,4 +1,6 @@
 // Whether a tree that was built elsewhere can be walked as one of our own (section J of docs/RULES.md). The Rust has none of it: it walks what it built.
+#![tactic(auto)]
+
 mod breach; // breach.rt: where a condition breaks first
 mod nodes; // nodes.rt: condition (i)
 mod parents; // parents.rt: conditions (ii) and (iii)
@@ -18,7 +20,7 @@ use breach::Breach;
 use triangle::Unadmitted;
 
 // Accepted, or a refusal's number and its `at`; with 19 also the number of the condition that is broken, else 0.
-#[derive(Drop)]
+#[derive(Clone, Copy)]
 pub enum Verdict {
     Accepted,
     Refused {

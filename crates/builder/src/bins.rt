@@ -12,7 +12,7 @@ ghost use Rattle.builder.specs.inner.Lanes.{bin_at, lane, Lanes, Vacant, OneMore
 use crate::{nodes, range};
 use aabb::{Aabb, Vec3};
 
-#[derive(Drop)]
+#[derive(Clone, Copy)]
 pub struct Bin {
     pub count: u32,
     pub bounds: Aabb,
@@ -39,7 +39,7 @@ impl Bin {
 }
 
 // The first of some bins in a row: its number, as a whole number and as a float.
-#[derive(Drop)]
+#[derive(Clone, Copy)]
 pub struct Row {
     pub first: usize,
     pub low: f64,

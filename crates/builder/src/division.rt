@@ -9,7 +9,7 @@ use crate::split::SplitDecision;
 use crate::{nodes, partition, range, split};
 
 // The next free node number, or that the tree is too deep.
-#[derive(Drop)]
+#[derive(Clone, Copy)]
 pub enum Made {
     Next(usize),
     Deep,

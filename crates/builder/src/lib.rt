@@ -1,5 +1,7 @@
 // The builder: a port of builder.rs. Triangles are put into a binary tree of boxes, node for node as the Rust does it.
 // Each `Vec` of the Rust is a buffer that the caller lends; `find_best_split` is an inner part (split.rt) and not public.
+#![tactic(auto)]
+
 mod range; // range.rt: what is asked of a range of triangle numbers
 mod bins; // bins.rt: the sixteen bins of each axis
 mod split; // split.rt: the choice of a split
@@ -21,7 +23,7 @@ pub use start::{clear_floats, room};
 use triangle::Unadmitted;
 
 // What a build answers: the tree's node count and leaf count, or a refusal's number and its `at`.
-#[derive(Drop)]
+#[derive(Clone, Copy)]
 pub enum Built {
     Tree { nodes: usize, leaves: usize },
     Refused { number: u32, at: usize },

@@ -10,7 +10,7 @@ ghost use Rattle.builder.specs.inner.Heap.{HeapFrom, Greater};
 use crate::range;
 
 // A triangle number, and the centroid of that triangle on the axis of the order: worked out once for several comparisons.
-#[derive(Drop)]
+#[derive(Clone, Copy)]
 pub struct Ranked {
     pub number: u32,
     pub centroid: f64,
@@ -28,7 +28,7 @@ impl Ranked {
 }
 
 // A place of the heap, and what stands there.
-#[derive(Drop)]
+#[derive(Clone, Copy)]
 pub struct Child {
     pub place: usize,
     pub own: Ranked,

@@ -11,7 +11,7 @@ use aabb::{Aabb, Vec3};
 use triangle::{Corners, Triangle};
 
 // The node's box, and the box of the centroids: the least and the greatest on each axis.
-#[derive(Drop)]
+#[derive(Clone, Copy)]
 pub struct Hull {
     pub bounds: Aabb,
     pub centroids: Aabb,

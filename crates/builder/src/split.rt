@@ -15,14 +15,14 @@ use crate::bins::Bin;
 use crate::range::Hull;
 use aabb::{Aabb, Vec3};
 
-#[derive(Drop)]
+#[derive(Clone, Copy)]
 pub enum SplitDecision {
     Split { axis: usize, position: f64 },
     MakeLeaf,
 }
 
 // The best split so far, with its cost.
-#[derive(Drop)]
+#[derive(Clone, Copy)]
 pub struct Best {
     pub cost: f64,
     pub axis: usize,

@@ -1,5 +1,7 @@
 // Builds some twenty meshes and prints each answer, with what the lent lists hold at the end: the index list, then each node's links and the
 // bits of its box. Room is lent with one entry or node to spare and marked, so that what a build leaves is seen. Held to the file stdout beside it.
+#![tactic(auto)]
+
 use builder::Built;
 
 fn main() {

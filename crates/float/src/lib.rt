@@ -1,5 +1,7 @@
 // The float calls that Rattle lacks (rules F3 to F9): the infinity, `abs`, `min`, `max`, `total_cmp`, `sqrt`, and whether a number is a binary32.
 // Each answers on every f64. The laws of the order and of rounding, which the other layers cite, stand in proofs/.
+#![tactic(auto)]
+
 mod single; // single.rt: which numbers are exactly a binary32
 mod square_root; // square_root.rt: the square root
 

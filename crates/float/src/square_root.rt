@@ -69,7 +69,7 @@ fn guess(bits: u64) -> u64
 }
 
 // A square as hi * 2^52 + lo.
-#[derive(Drop)]
+#[derive(Clone, Copy)]
 struct Wide {
     hi: u64,
     lo: u64,

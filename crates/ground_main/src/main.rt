@@ -1,5 +1,7 @@
 // Runs the ground layer (order, aabb, triangle) on values where zeros, infinities, NaNs and subnormals matter, and prints each answer by
 // its bits. What it prints is held to the file stdout beside it.
+#![tactic(auto)]
+
 use aabb::{Aabb, Ray, Span, Vec3};
 use triangle::{Found, Triangle};
 

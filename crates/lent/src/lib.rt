@@ -1,5 +1,6 @@
 // What every call over lent lists needs: the limits here, and in specs/ and proofs/ the ladder of refusals, flat records and permutations.
 // The Rust has none of it: its lists grow, and it never refuses.
+#![tactic(auto)]
 
 // n at most.
 pub const MOST_TRIANGLES: usize = 65536;

@@ -1,6 +1,8 @@
 // The calls for Rust and C, built by `rt staticlib pigeonmast`. Each is a public call of the layers below, with its data as plain numbers: a slice
 // passes as pointer and length, `&[f64; 6]` as a pointer. No call asks anything of the numbers; what a call answers and what it leaves in
 // everything lent is fixed on every input (specs/Report.antt).
+#![tactic(auto)]
+
 ghost use Rattle.std.specs.Prelude.{◌≡◌, [], ◌∷◌};
 ghost use Rattle.float.specs.Root.{root};
 ghost use Rattle.aabb.specs.Vector.{ray_at, vector_at};

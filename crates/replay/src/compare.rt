@@ -4,7 +4,7 @@ use crate::input::{Long, Word};
 
 // The same as stored, or not; or why it could not be compared: the file ended, a list is longer than the room for it, or what stands there is of no
 // known kind.
-#[derive(Drop)]
+#[derive(Clone, Copy)]
 pub enum Check {
     Same,
     Differs,

@@ -1,13 +1,13 @@
 // Words (u32), longs (u64) and numbers (the eight bytes of an f64) from the file, little-endian, one after the other.
 
 // What was read, or that the file ended before it.
-#[derive(Drop)]
+#[derive(Clone, Copy)]
 pub enum Word {
     Read(u32),
     Cut,
 }
 
-#[derive(Drop)]
+#[derive(Clone, Copy)]
 pub enum Long {
     Read(u64),
     Cut,

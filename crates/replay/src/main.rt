@@ -1,6 +1,8 @@
 // Replays the oracle's stored answers, data/answers.bin, whose form is in oracle/README.md, "The replay data": each case is handed to the exported
 // calls, and what they answer and leave in everything lent is compared with what is stored. Prints one line, how many answers it compared (a
 // ray of a walk is one, and so is a sky) and how many differed; or one line that says what is wrong with the data.
+#![tactic(auto)]
+
 mod input; // input.rt: words and numbers from the file
 mod compare; // compare.rt: what a call left, against what is stored
 mod score; // score.rt: how many were compared and how many differed

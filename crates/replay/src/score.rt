@@ -1,7 +1,7 @@
 // How many answers were compared and how many differed, with what the last one came to.
 use crate::compare::Check;
 
-#[derive(Drop)]
+#[derive(Clone, Copy)]
 pub struct Score {
     pub compared: u64,
     pub differ: u64,

@@ -4,7 +4,7 @@ ghost use Rattle.report.specs.Little.{word};
 ghost use Rattle.report.specs.Input.{measured};
 
 // What an input holds: so many triangles and so many rays, whole and with nothing left over; or it is bad.
-#[derive(Drop)]
+#[derive(Clone, Copy)]
 pub enum Input {
     Good { triangles: usize, rays: usize },
     Bad,

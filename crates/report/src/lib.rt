@@ -1,5 +1,7 @@
 // The work of the survey program (rules I1 to I6): the input's bytes are measured and read, the tree is built, each ray is walked,
 // and the report is written as text. The program itself only reads, calls `survey` and writes.
+#![tactic(auto)]
+
 mod input; // input.rt: the input, measured
 mod number; // number.rt: numbers of the input
 mod text; // text.rt: bytes and digits, written into lent room

@@ -1,5 +1,7 @@
 // A sky of rays (rules K1 to K4): each ray's walk, told in lent answer room, one place a ray. The Rust casts its rays one by one; this has no
 // counterpart there.
+#![tactic(auto)]
+
 ghost use Rattle.std.specs.Prelude.{◌≡◌, ◌++◌, ◌+◌, ◌*◌, ◌≤◌, length, drop};
 ghost use Rattle.lent.specs.Ladder.{first_failed};
 ghost use Rattle.lent.specs.Flat.{put as written, records};
@@ -11,7 +13,7 @@ use aabb::Ray;
 use walk::Answer;
 
 // What the call answers: every ray's place is filled, or the whole call is refused, with a number and `at`.
-#[derive(Drop)]
+#[derive(Clone, Copy)]
 pub enum Filled {
     Places,
     Refused { number: u32, at: u64 },
@@ -19,7 +21,7 @@ pub enum Filled {
 
 // What one place holds (rule K2): 0 for a miss, 100 for a hit, else the refusal number; which triangle, or where it was refused; t; u and
 // v; the box tests and the triangle tests; the material; zeros for what there isn't.
-#[derive(Drop)]
+#[derive(Clone, Copy)]
 pub struct Place {
     pub outcome: u64,
     pub which: u64,

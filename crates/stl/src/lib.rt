@@ -1,5 +1,7 @@
 // Binary STL, read and written (rules L1 to L5): 80 header bytes, a little-endian u32 count, then 50 bytes a triangle: normal, three vertices as binary32, an
 // attribute. A mesh is a lent slice, twelve numbers a triangle: v0, v1, v2, normal. The Rust has none of it.
+#![tactic(auto)]
+
 mod bytes; // bytes.rt: numbers of a file, by their bytes
 mod reading; // reading.rt: the work of a reading, on a slice and a place
 mod writing; // writing.rt: the work of a writing
@@ -15,14 +17,14 @@ use triangle::Unadmitted;
 const HEADER: usize = 80;
 
 // What a reading or a writing answers: how many triangles were read, or bytes written; or the refusal's number and its `at`.
-#[derive(Drop)]
+#[derive(Clone, Copy)]
 pub enum Answer {
     Done(usize),
     Refused { number: u32, at: usize },
 }
 
 // A reader: it keeps the lent file and its place.
-#[derive(Drop)]
+#[derive(Clone, Copy)]
 struct StlReader<'a> {
     pub file: &'a [u8],
     pub at: usize,

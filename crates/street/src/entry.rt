@@ -13,7 +13,7 @@ use triangle::Hit;
 use walk::Answer;
 
 // What is seen so far, or a refusal.
-#[derive(Drop)]
+#[derive(Clone, Copy)]
 pub enum Met {
     Best(Seen),
     Refused { number: u32, at: u64 },

@@ -1,5 +1,7 @@
 // Streets from one house: placements of one mesh, each a matrix and its inverse, and the top tree over them: the making of `BvhScene` in scene.rs.
 // The top tree is the tree of the proxies, one triangle a placement; its index list names the placements. (The Rust loses that list.)
+#![tactic(auto)]
+
 pub mod rows; // rows.rt: matrices, and the local ray
 mod placing; // placing.rt: world boxes and proxies
 mod placements; // placements.rt: what is asked of the placements

@@ -8,14 +8,14 @@ use crate::rows::Matrix;
 use aabb::Aabb;
 
 // The lowest placement that does not stand a test, if there is one.
-#[derive(Drop)]
+#[derive(Clone, Copy)]
 pub enum Lowest {
     At(usize),
     Nothing,
 }
 
 // Whether the two lists will do, or the refusal: 23 or 24.
-#[derive(Drop)]
+#[derive(Clone, Copy)]
 pub enum Standing {
     Fine,
     Refused { number: u32, at: usize },

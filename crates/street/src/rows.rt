@@ -9,13 +9,13 @@ use aabb::{Ray, Vec3};
 const TWO_TO_20: f64 = 1048576.0;
 
 // Four numbers: what meets x, y and z, and what meets w.
-#[derive(Drop)]
+#[derive(Clone, Copy)]
 pub struct Row {
     pub xyz: Vec3,
     pub w: f64,
 }
 
-#[derive(Drop)]
+#[derive(Clone, Copy)]
 pub struct Matrix {
     pub first: Row,
     pub second: Row,
@@ -24,7 +24,7 @@ pub struct Matrix {
 }
 
 // The ray in the house's numbers, or none.
-#[derive(Drop)]
+#[derive(Clone, Copy)]
 pub enum Local {
     Cast(Ray),
     Skipped,

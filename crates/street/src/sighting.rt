@@ -10,7 +10,7 @@ use triangle::Hit;
 
 // What a ray finds in a street: t is (point - origin) · direction; the normal has length 1, or is zero; where on the triangle it is and whether that is its front,
 // as the house has them; the house's triangle, the placement, the triangle's material.
-#[derive(Drop)]
+#[derive(Clone, Copy)]
 pub struct Sight {
     pub t: f64,
     pub point: Vec3,
@@ -23,7 +23,7 @@ pub struct Sight {
     pub material: u32,
 }
 
-#[derive(Drop)]
+#[derive(Clone, Copy)]
 pub enum Seen {
     One(Sight),
     None,

@@ -1,10 +1,12 @@
 // A node of the lent lists, as a walk and a check of strangers' trees read it: `BvhNode` of builder.rs, by six f64 of box and three u32 of links.
+#![tactic(auto)]
+
 ghost use Rattle.std.specs.Prelude.{◌≡◌, get_or};
 ghost use Rattle.tree.specs.Node.{linked, node_at, sound, left_of, right_of, misfit};
 
 use aabb::Aabb;
 
-#[derive(Drop)]
+#[derive(Clone, Copy)]
 pub struct Node {
     pub bounds: Aabb,
     pub left_or_first: u32,

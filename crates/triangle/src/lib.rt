@@ -1,6 +1,8 @@
 // Triangles and the Möller–Trumbore test: a port of triangle.rs. Every call answers on every f64.
 // Left out: what turns a triangle of optics_core into one. For `surface_index` a hit has the triangle's number, and for `material_id`, which the Rust
 // keeps in the triangle, the material that is lent beside it. A mesh is a lent slice, twelve numbers a triangle: v0, v1, v2, normal.
+#![tactic(auto)]
+
 mod normals; // normals.rt: Triangle::new, and the call that refills a mesh
 
 ghost use Rattle.std.specs.Prelude.{◌≡◌, ◌+◌, ◌≤◌, length};
@@ -12,7 +14,7 @@ ghost use Rattle.triangle.specs.Meeting.{crossing_of, judged, distance_to, dista
 use aabb::{Aabb, Ray, Vec3};
 pub use normals::{Refill, refill_normals};
 
-#[derive(Drop)]
+#[derive(Clone, Copy)]
 pub struct Triangle {
     pub v0: Vec3,
     pub v1: Vec3,
@@ -21,7 +23,7 @@ pub struct Triangle {
 }
 
 // The vertices of a triangle, for what needs no normal: a whole triangle by value would go through memory.
-#[derive(Drop)]
+#[derive(Clone, Copy)]
 pub struct Corners {
     pub v0: Vec3,
     pub v1: Vec3,
@@ -30,7 +32,7 @@ pub struct Corners {
 
 // What a ray finds where it meets a triangle: the distance, the point, the normal on the ray's side, where on the triangle it is (u
 // along the edge from v0 to v1, v along that to v2), whether that side is the front, and the triangle's number and material.
-#[derive(Drop)]
+#[derive(Clone, Copy)]
 pub struct Hit {
     pub t: f64,
     pub point: Vec3,
@@ -43,14 +45,14 @@ pub struct Hit {
 }
 
 // What a ray finds of a triangle.
-#[derive(Drop)]
+#[derive(Clone, Copy)]
 pub enum Found {
     At(Hit),
     Nothing,
 }
 
 // The numbers of the test, by the Rust's names, worked out straight through.
-#[derive(Drop)]
+#[derive(Clone, Copy)]
 pub struct Crossing {
     pub det: f64,
     pub u: f64,
@@ -59,14 +61,14 @@ pub struct Crossing {
 }
 
 // How far along the ray it meets the triangle, if it does.
-#[derive(Drop)]
+#[derive(Clone, Copy)]
 pub enum Distance {
     To(f64),
     None,
 }
 
 // The lowest number of a triangle of a mesh that isn't admitted, if there is one.
-#[derive(Drop)]
+#[derive(Clone, Copy)]
 pub enum Unadmitted {
     At(usize),
     Nothing,

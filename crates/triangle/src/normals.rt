@@ -8,7 +8,7 @@ use crate::{Corners, Triangle, Unadmitted};
 use aabb::Vec3;
 
 // What a call answers: the normals are refilled, or a refusal's number and its `at`.
-#[derive(Drop)]
+#[derive(Clone, Copy)]
 pub enum Refill {
     Done,
     Refused { number: u32, at: usize },

@@ -11,7 +11,7 @@ use aabb::Ray;
 use tree::Node;
 
 // Whether a walk can test every entry of a leaf.
-#[derive(Drop)]
+#[derive(Clone, Copy)]
 pub enum Verdict {
     Fit,
     Unfit { number: u32, at: u64 },

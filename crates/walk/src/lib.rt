@@ -1,6 +1,8 @@
 // The walk of one ray through one mesh: a port of `intersect_blas` of scene.rs, with the counts of the inner loop of cost.rs.
 // Left out: the instances, their transforms and the top level. Added: every walk ends with a hit, a miss or a numbered refusal, on any lists,
 // where the Rust panics (a 65th node pending) or never comes back (a tree that loops).
+#![tactic(auto)]
+
 mod tally; // tally.rt: the counts and the hit so far
 mod pending; // pending.rt: the pending node numbers
 mod turn; // turn.rt: how a step ends
@@ -20,7 +22,7 @@ use triangle::{Hit, Triangle};
 use turn::Turn;
 
 // The walk's answer (rule W8): what was hit and both counts, the counts alone, or a refusal's number and `at`.
-#[derive(Drop)]
+#[derive(Clone, Copy)]
 pub enum Answer {
     Struck {
         hit: Hit,

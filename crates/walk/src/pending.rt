@@ -4,7 +4,7 @@ ghost use Rattle.lent.specs.Limits.{most_pending};
 ghost use Rattle.walk.specs.inner.State.{pending, besides};
 
 // The first `len` of the numbers are pending; the last of them is taken next.
-#[derive(Drop)]
+#[derive(Clone, Copy)]
 pub struct Pending {
     pub nodes: [u32; 64],
     pub len: usize,

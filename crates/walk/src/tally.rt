@@ -6,14 +6,14 @@ use aabb::Ray;
 use triangle::{Corners, Distance};
 
 // The hit so far.
-#[derive(Drop)]
+#[derive(Clone, Copy)]
 pub enum Nearest {
     Unmet,
     Met { t: f64, number: u32 },
 }
 
 // The two counts, of box tests and of triangle tests, and the hit so far.
-#[derive(Drop)]
+#[derive(Clone, Copy)]
 pub struct Tally {
     pub boxes: u64,
     pub triangles: u64,

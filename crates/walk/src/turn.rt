@@ -2,7 +2,7 @@
 use crate::tally::Tally;
 
 // What a step does with the pending node that it took.
-#[derive(Drop)]
+#[derive(Clone, Copy)]
 pub enum Turn {
     // The walk is refused.
     Refuse { number: u32, at: u64 },

@@ -1,5 +1,7 @@
 // Walks hand-made lists, good and hostile, and prints each answer: a hit with its numbers by their bits, or a miss, and both counts; or a
 // refusal with its number and place; and skies of rays, with every number of the answer room. What it prints is held to the file stdout beside it.
+#![tactic(auto)]
+
 ghost use Rattle.std.specs.Prelude.{◌≤◌};
 
 use aabb::{Ray, Vec3};

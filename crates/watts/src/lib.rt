@@ -1,5 +1,7 @@
 // The watts of a sky of rays (rules Q1 to Q4): the sky's call with a weight for each ray, and the watts that are shaded, open and refused.
 // The Rust has no counterpart.
+#![tactic(auto)]
+
 mod fraction; // fraction.rt: the share, in lowest terms
 mod sums; // sums.rt: the four sums
 
@@ -15,7 +17,7 @@ pub use sums::Figures;
 
 // What the call answers: the four figures, in watts, and shaded over shaded and open together; or the whole call is refused, with a number
 // and `at`.
-#[derive(Drop)]
+#[derive(Clone, Copy)]
 pub enum Counted {
     Report { figures: Figures, share: Terms },
     Refused { number: u32, at: u64 },

@@ -4,7 +4,7 @@ ghost use Rattle.lent.specs.Limits.{most_rays};
 ghost use Rattle.watts.specs.Watts.{weighed, figures, outcome_at};
 
 // Watts of the rays that hit, that miss, that are refused, and of all.
-#[derive(Drop)]
+#[derive(Clone, Copy)]
 pub struct Figures {
     pub shaded: u64,
     pub open: u64,

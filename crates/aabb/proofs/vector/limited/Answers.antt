@@ -1,0 +1,9 @@
+-- A magnitude is at most a limit where the number and its opposite are. Assumes nothing.
+use Rattle.aabb.proofs.Tests.{side_over, side_within}
+use Rattle.aabb.proofs.vector.limited.Goals as goal
+
+pub returns-then-x-limit : goal.returns-then-x-limit
+returns-then-x-limit c = side_within _ _ c.if-x-limit.true
+
+pub returns : goal.returns
+returns c = side_over _ _ c.if-x-limit.false
