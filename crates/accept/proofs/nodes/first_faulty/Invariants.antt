@@ -1,0 +1,13 @@
+-- The empty mesh at node 0; else those from i on give the lowest of all. Assumes nothing.
+use mathlib.Core.Path.{◌≡◌}
+use Prim.Native.Nat.{◌-◌}
+use Rattle.tree.specs.Lent.{node_count}
+use Rattle.accept.specs.Lowest.{lowest}
+use Rattle.accept.specs.Conditions.{foreign, breaks_1}
+use Rattle.accept.proofs.nodes.first_faulty.Given as goal
+
+abbrev pub invariant-loop-i : goal.invariant-loop-i
+invariant-loop-i l = lowest (breaks_1 (foreign l.triangles l.index l.boxes l.links)) l.i (node_count l.links - l.i) ≡ lowest (breaks_1 (foreign l.triangles l.index l.boxes l.links)) 0 (node_count l.links)
+
+abbrev pub decreases-loop-i : goal.decreases-loop-i
+decreases-loop-i l = node_count l.links - l.i

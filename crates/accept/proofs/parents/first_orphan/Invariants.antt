@@ -1,0 +1,12 @@
+-- Those from j on give the lowest of all. Assumes nothing.
+use mathlib.Core.Path.{◌≡◌}
+use Prim.Native.Nat.{◌-◌}
+use Rattle.accept.specs.Lowest.{lowest}
+use Rattle.accept.specs.inner.Room.{orphan}
+use Rattle.accept.proofs.parents.first_orphan.Given as goal
+
+abbrev pub invariant-loop-j : goal.invariant-loop-j
+invariant-loop-j l = lowest (orphan l.work) l.j (l.nodes - l.j) ≡ lowest (orphan l.work) 0 l.nodes
+
+abbrev pub decreases-loop-j : goal.decreases-loop-j
+decreases-loop-j l = l.nodes - l.j
