@@ -10,21 +10,12 @@ use Rattle.walk.specs.inner.Turns.{visit}
 use Rattle.walk.proofs.VisitEnds.{its_ray, its_own}
 use Rattle.walk.proofs.LoopInvariant.{begun, ended, last_of, all_below, spent, Counting, one_box, ready, stopped, missed, down_box, down, open_room, opens}
 use Rattle.walk.proofs.PendingList.{fewer, opened_last, root_last}
-use Rattle.walk.proofs.run.Goals.{After-boxed-a, After-visit, At-loop-pending}
+use Rattle.walk.proofs.run.Goals.{After-boxed-a, After-visit}
 use Rattle.walk.proofs.run.Goals as goal
 
--- the lists and the ray that came in
-abbrev lists : At-loop-pending → Lent
-lists L = let A = L.before.before.before.before.before.before.before.before.args in lent A.triangles.now A.materials.now A.index.now A.boxes.now A.links.now
-
-abbrev ray : At-loop-pending → Ray
-ray L = L.args.ray
-
-small : (L : At-loop-pending) (k : ℕ) → get_or (lists L).tree.links k 0 < 2 ^ 32
-small L k = omega (arith, L.shared_slice_known-5-1.given k)
-
--- the node that is taken, with its box test counted, and what its visit gives
-counting : (b : After-boxed-a) → Counting (lists b.before.before.before) (ray b.before.before.before) (node_count (lists b.before.before.before).tree.links) b.loop-pending.pending b.loop-pending.a b.boxed-a.result
+-- the node that is taken, with its box test counted
+counting : (b : After-boxed-a)
+    → let A = b.args in let s = lent A.triangles.now A.materials.now A.index.now A.boxes.now A.links.now in Counting s A.ray (node_count s.tree.links) b.loop-pending.pending b.loop-pending.a b.boxed-a.result
 counting b =
     record {
       going = b.loop-pending.invariant.0;
@@ -33,13 +24,16 @@ counting b =
       one = b.boxed-a.ensures;
     }
 
+-- what its visit gives
 seen : (v : After-visit)
-    → v.visit.result ≡ visit (lists v.before.before.before.before).mesh.triangles (lists v.before.before.before.before).tree (ray v.before.before.before.before) (last_of v.loop-pending.pending) (v.loop-pending.pending.len - 1) v.boxed-a.result
+    → let A = v.args in let s = lent A.triangles.now A.materials.now A.index.now A.boxes.now A.links.now in v.visit.result ≡ visit s.mesh.triangles s.tree A.ray (last_of v.loop-pending.pending) (v.loop-pending.pending.len - 1) v.boxed-a.result
 seen v =
+    let A = v.args in
+    let s = lent A.triangles.now A.materials.now A.index.now A.boxes.now A.links.now in
     let b = v.boxed-a.result in
     v.visit.ensures
-    ∙ ap (λ (r : Ray). visit (lists v.before.before.before.before).mesh.triangles (lists v.before.before.before.before).tree r v.loop-pending.last (v.loop-pending.pending.len - 1) b) (its_ray _ _ v.of-aim.ensures)
-    ∙ ap (λ (i : ℕ). visit (lists v.before.before.before.before).mesh.triangles (lists v.before.before.before.before).tree (ray v.before.before.before.before) i (v.loop-pending.pending.len - 1) b) (v.loop-pending.invariant.1 v.loop-pending-test.true)
+    ∙ ap (λ (r : Ray). visit s.mesh.triangles s.tree r v.loop-pending.last (v.loop-pending.pending.len - 1) b) (its_ray _ _ v.of-aim.ensures)
+    ∙ ap (λ (i : ℕ). visit s.mesh.triangles s.tree A.ray i (v.loop-pending.pending.len - 1) b) (v.loop-pending.invariant.1 v.loop-pending-test.true)
 
 pub loop-pending-init : goal.loop-pending-init
 loop-pending-init c =
@@ -59,11 +53,11 @@ boxed-a-requires c = omega (arith, c.if-nodes-a.false, c.loop-pending.invariant.
 
 pub visit-requires : goal.visit-requires
 visit-requires c =
-    (rw (c.loop-pending.invariant.1 c.loop-pending-test.true) (ready (counting c)), its_own _ _ c.of-aim.ensures)
+    (rw (c.loop-pending.invariant.1 c.loop-pending-test.true) (ready (counting (goal.at.visit-requires c).After-boxed-a)), its_own _ _ c.of-aim.ensures)
 
 pub returns-in-Refuse : goal.returns-in-Refuse
 unfolding told
-returns-in-Refuse c = stopped (counting c.before.before.before.before) (seen c.before.before.before) _ _ c.in-Refuse.is
+returns-in-Refuse c = stopped (counting (goal.at.returns-in-Refuse c).After-boxed-a) (seen (goal.at.returns-in-Refuse c).After-visit) _ _ c.in-Refuse.is
 
 pub overflow_sub-last : goal.overflow_sub-last
 overflow_sub-last c = omega (arith, c.if-besides-gt0.true)
@@ -76,24 +70,24 @@ bounds-pending-besides c = omega arith
 
 pub loop-pending-smaller-then-besides-gt0 : goal.loop-pending-smaller-then-besides-gt0
 loop-pending-smaller-then-besides-gt0 c =
-    omega (arith, c.if-nodes-a.false, down_box (counting c.before.before.before.before.before.before.before) (seen c.before.before.before.before.before.before) (small c.before.before.before.before.before.before.before.before.before.before) c.in-Down.is)
+    omega (arith, c.if-nodes-a.false, down_box (counting (goal.at.loop-pending-smaller-then-besides-gt0 c).After-boxed-a) (seen (goal.at.loop-pending-smaller-then-besides-gt0 c).After-visit) (λ k. omega (arith, c.type_inv.links k)) c.in-Down.is)
 
 pub loop-pending-preserved-then-besides-gt0 : goal.loop-pending-preserved-then-besides-gt0
 loop-pending-preserved-then-besides-gt0 c =
     let e = c.dropped-pending.ensures in (
-      down (counting c.before.before.before.before.before.before.before) (seen c.before.before.before.before.before.before) (small c.before.before.before.before.before.before.before.before.before.before) c.in-Down.is c.dropped-pending.result e.0 (fewer _ _ _ _ e.0 e.1),
+      down (counting (goal.at.loop-pending-preserved-then-besides-gt0 c).After-boxed-a) (seen (goal.at.loop-pending-preserved-then-besides-gt0 c).After-visit) (λ k. omega (arith, c.type_inv.links k)) c.in-Down.is c.dropped-pending.result e.0 (fewer _ _ _ _ e.0 e.1),
       λ h. ap (λ (k : ℕ). get_or c.dropped-pending.result.nodes (k - 1) 0) (sym e.0),
       ap length e.1 ∙ c.loop-pending.invariant.2,
     )
 
 pub loop-pending-smaller-else-besides-gt0 : goal.loop-pending-smaller-else-besides-gt0
 loop-pending-smaller-else-besides-gt0 c =
-    omega (arith, c.if-nodes-a.false, down_box (counting c.before.before.before.before.before.before) (seen c.before.before.before.before.before) (small c.before.before.before.before.before.before.before.before.before) c.in-Down.is)
+    omega (arith, c.if-nodes-a.false, down_box (counting (goal.at.loop-pending-smaller-else-besides-gt0 c).After-boxed-a) (seen (goal.at.loop-pending-smaller-else-besides-gt0 c).After-visit) (λ k. omega (arith, c.type_inv.links k)) c.in-Down.is)
 
 pub loop-pending-preserved-else-besides-gt0 : goal.loop-pending-preserved-else-besides-gt0
 loop-pending-preserved-else-besides-gt0 c =
     let e = c.dropped-pending.ensures in (
-      down (counting c.before.before.before.before.before.before) (seen c.before.before.before.before.before) (small c.before.before.before.before.before.before.before.before.before) c.in-Down.is c.dropped-pending.result e.0 (fewer _ _ _ _ e.0 e.1),
+      down (counting (goal.at.loop-pending-preserved-else-besides-gt0 c).After-boxed-a) (seen (goal.at.loop-pending-preserved-else-besides-gt0 c).After-visit) (λ k. omega (arith, c.type_inv.links k)) c.in-Down.is c.dropped-pending.result e.0 (fewer _ _ _ _ e.0 e.1),
       λ h. absurd (omega (arith, h, c.if-besides-gt0.false, e.0)),
       ap length e.1 ∙ c.loop-pending.invariant.2,
     )
@@ -109,40 +103,40 @@ bounds-pending-besides-then-besides-gt0-2 c = omega arith
 
 pub loop-pending-smaller-then-besides-gt0-2 : goal.loop-pending-smaller-then-besides-gt0-2
 loop-pending-smaller-then-besides-gt0-2 c =
-    omega (arith, c.if-nodes-a.false, one_box (counting c.before.before.before.before.before.before))
+    omega (arith, c.if-nodes-a.false, one_box (counting (goal.at.loop-pending-smaller-then-besides-gt0-2 c).After-boxed-a))
 
 pub loop-pending-preserved-then-besides-gt0-2 : goal.loop-pending-preserved-then-besides-gt0-2
 loop-pending-preserved-then-besides-gt0-2 c =
     let e = c.dropped-pending-in-Missed.ensures in (
-      missed (counting c.before.before.before.before.before.before) (seen c.before.before.before.before.before) c.in-Missed.is c.dropped-pending-in-Missed.result e.0 (fewer _ _ _ _ e.0 e.1),
+      missed (counting (goal.at.loop-pending-preserved-then-besides-gt0-2 c).After-boxed-a) (seen (goal.at.loop-pending-preserved-then-besides-gt0-2 c).After-visit) c.in-Missed.is c.dropped-pending-in-Missed.result e.0 (fewer _ _ _ _ e.0 e.1),
       λ h. ap (λ (k : ℕ). get_or c.dropped-pending-in-Missed.result.nodes (k - 1) 0) (sym e.0),
       ap length e.1 ∙ c.loop-pending.invariant.2,
     )
 
 pub loop-pending-smaller-else-besides-gt0-2 : goal.loop-pending-smaller-else-besides-gt0-2
 loop-pending-smaller-else-besides-gt0-2 c =
-    omega (arith, c.if-nodes-a.false, one_box (counting c.before.before.before.before.before))
+    omega (arith, c.if-nodes-a.false, one_box (counting (goal.at.loop-pending-smaller-else-besides-gt0-2 c).After-boxed-a))
 
 pub loop-pending-preserved-else-besides-gt0-2 : goal.loop-pending-preserved-else-besides-gt0-2
 loop-pending-preserved-else-besides-gt0-2 c =
     let e = c.dropped-pending-in-Missed.ensures in (
-      missed (counting c.before.before.before.before.before) (seen c.before.before.before.before) c.in-Missed.is c.dropped-pending-in-Missed.result e.0 (fewer _ _ _ _ e.0 e.1),
+      missed (counting (goal.at.loop-pending-preserved-else-besides-gt0-2 c).After-boxed-a) (seen (goal.at.loop-pending-preserved-else-besides-gt0-2 c).After-visit) c.in-Missed.is c.dropped-pending-in-Missed.result e.0 (fewer _ _ _ _ e.0 e.1),
       λ h. absurd (omega (arith, h, c.if-besides-gt0-2.false, e.0)),
       ap length e.1 ∙ c.loop-pending.invariant.2,
     )
 
 pub opened-pending-requires : goal.opened-pending-requires
 opened-pending-requires c =
-    (c.loop-pending-test.true, open_room (counting c.before.before.before.before) (seen c.before.before.before) (small c.before.before.before.before.before.before.before) c.in-Open.is, c.loop-pending.invariant.2)
+    (c.loop-pending-test.true, open_room (counting (goal.at.opened-pending-requires c).After-boxed-a) (seen (goal.at.opened-pending-requires c).After-visit) (λ k. omega (arith, c.type_inv.links k)) c.in-Open.is, c.loop-pending.invariant.2)
 
 pub loop-pending-smaller : goal.loop-pending-smaller
 loop-pending-smaller c =
-    omega (arith, c.if-nodes-a.false, one_box (counting c.before.before.before.before.before))
+    omega (arith, c.if-nodes-a.false, one_box (counting (goal.at.loop-pending-smaller c).After-boxed-a))
 
 pub loop-pending-preserved : goal.loop-pending-preserved
 loop-pending-preserved c =
     let e = c.opened-pending.ensures in (
-      opens (counting c.before.before.before.before.before) (seen c.before.before.before.before) (small c.before.before.before.before.before.before.before.before) c.in-Open.is c.opened-pending.result e.0 e.1,
+      opens (counting (goal.at.loop-pending-preserved c).After-boxed-a) (seen (goal.at.loop-pending-preserved c).After-visit) (λ k. omega (arith, c.type_inv.links k)) c.in-Open.is c.opened-pending.result e.0 e.1,
       λ h. sym (opened_last _ _ _ _ _ e.0 e.1),
       e.2,
     )

@@ -26,7 +26,7 @@ pub returns-in-None : goal.returns-in-None
 returns-in-None c = kept _ _ _ c.in-None.is
 
 pub returns-then-replaces : goal.returns-then-replaces
-returns-then-replaces c = let A = c.args in let f = c.found-1 in newer A.best A.number A.found f.given.0.0 c.replaces.result f.given.1 c.replaces.ensures c.if-replaces.true
+returns-then-replaces c = let A = c.args in newer A.best A.number A.found c.in-To.t c.replaces.result c.in-To.is c.replaces.ensures c.if-replaces.true
 
 pub returns-else-replaces : goal.returns-else-replaces
-returns-else-replaces c = let A = c.args in let f = c.found-1 in older A.best A.number A.found f.given.0.0 c.replaces.result f.given.1 c.replaces.ensures c.if-replaces.false
+returns-else-replaces c = let A = c.args in older A.best A.number A.found c.in-To.t c.replaces.result c.in-To.is c.replaces.ensures c.if-replaces.false

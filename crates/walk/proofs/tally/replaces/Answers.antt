@@ -25,7 +25,7 @@ pub returns-in-Unmet : goal.returns-in-Unmet
 returns-in-Unmet c = none-held _ _ _ _ c.in-Unmet.is c.infinity.ensures
 
 pub returns-then-number-held : goal.returns-then-number-held
-returns-then-number-held c = let A = c.args in let b = c.best-1 in lower A.best A.number A.t b.given.0.0 b.given.0.1.0 b.given.1 c.if-number-held.true
+returns-then-number-held c = let A = c.args in lower A.best A.number A.t c.in-Met.least c.in-Met.held c.in-Met.is c.if-number-held.true
 
 pub returns-else-number-held : goal.returns-else-number-held
-returns-else-number-held c = let A = c.args in let b = c.best-1 in not_lower A.best A.number A.t b.given.0.0 b.given.0.1.0 b.given.1 c.if-number-held.false
+returns-else-number-held c = let A = c.args in not_lower A.best A.number A.t c.in-Met.least c.in-Met.held c.in-Met.is c.if-number-held.false
