@@ -1,0 +1,12 @@
+-- The first i entries are zero. Assumes nothing.
+use mathlib.Core.Path.{◌≡◌}
+use Prim.Native.Nat.{◌-◌, ◌≤◌}
+use lib.ListN.{length, take, replicate}
+use Rattle.float.specs.Number.{nought}
+use Rattle.builder.proofs.start.clear_floats.Given as goal
+
+abbrev pub invariant-loop-i : goal.invariant-loop-i
+invariant-loop-i l = (l.i ≤ length l.initial.s) × (length l.s ≡ length l.initial.s) × (take l.i l.s ≡ replicate l.i nought)
+
+abbrev pub decreases-loop-i : goal.decreases-loop-i
+decreases-loop-i l = length l.initial.s - l.i

@@ -1,0 +1,94 @@
+-- `stl::open` meets its contract: a walk of its MIR, by hand. An `StlReader` is made of the slice passed and 0, in the result's local.
+-- A `&[u8]` is Copy, so what it owns is had twice: once for file at exit, and once inside the result, beside the facts of at.
+-- Assumes nothing.
+use mathlib.Core.Path.{refl}
+use Prim.Native.Nat.{ℕ}
+use mathlib.Core.List.{List, [], ◌∷◌}
+use lib.Dec.{lit<}
+use lib.ListN.{length}
+use seplogic.Ra.Ura.{Ura}
+use mir.Syntax.{named, w64}
+use mir.Val.{Val}
+use base.Logic.{SProp, ent, emp, via, fst∗}
+use base.Fml.{Lft, Share, Fml, ftrue, flft}
+use prog.Memory.{Memory}
+use prog.Routine.{Routine}
+use prog.Wp.{Calls, Loops, WpFn, Tables}
+use types.Logic.{Logic}
+use contract.Monad.{Fun}
+use types.Kit.{‵, raw, ◌⊛◌, ◌$◌, ◌∵◌, !, qed, by, move, use1, split, fsplit, fjoin, suffices, frame}
+use types.Part.{agg}
+use types.Run.{look, init, forget, stop, from, load, lit, and_then, no_more, assigns, returns, enter, alloc1, alloc0, params1, pass1, pass0, free1, free0}
+use sound.WpLaws.{WpFn-mono}
+use denote.RattleType.{owns}
+use denote.Laws.{Is}
+use denote.Plain.{uint_Makes}
+use denote.Builtin.{u8, usize}
+use denote.Ref.{Bor, NamedLft}
+use denote.Signature.{plain, named_lft}
+use denote.Slice.{slice_val, ShrSlice, shr_slice_vals, shr_slice_Tells, shr_slice_Lawful, shr_slice_copy}
+use denote.Steps.{nothing, owned}
+use denote.Struct.Rest.{own_shut}
+use denote.Triple.Entry.{on_entry}
+use denote.Triple.Spec.{Meets}
+use denote.Triple.Walked.{says, Stays, stay_none_slice, walk_of, Goes-none_slice, Walks, ends_at, walked, walk_Meets}
+use denote.Exit.{yes}
+use Rattle.stl.specs.declared.StlReader.{StlReader}
+use Rattle.stl.specs.contracts.StlReader as T
+use Rattle.stl.proofs.StlReader.TheLaws as T'
+use Rattle.stl.specs.contracts.open as opened
+use Rattle.stl.proofs.open.Statement as stated
+use Rattle.stl.proofs.open.Code as code
+use Rattle.stl.proofs.open.Goals as goal
+
+abbrev stayed : Stays (opened.ended).signature.params (opened.ended).kept
+stayed = (stay_none_slice (0 ∷ []) tt (plain (λ _. u8)) yes, tt)
+
+module _ {M : Type 1} {𝓤 : Ura M} (𝓛 : Logic 𝓤) (mem : Memory → SProp 𝓤) (run : Routine → Fun 𝓤) (κ : Lft) (q : Share) (s : Bor (List ℕ)) where
+  open 𝓛 use {H}
+
+  abbrev α : NamedLft
+  α = named_lft 1 0 tt (κ, tt)
+
+  -- the machine value that s has
+  abbrev v : Val
+  v = slice_val s.ref_ptr (length s.now)
+
+  abbrev made : StlReader
+  made = record { file = s; at = 0 }
+
+  abbrev at : List Val × Unit {0}
+  at = (v ∷ [], tt)
+
+  abbrev Post : Val → SProp 𝓤
+  Post = (walk_of 𝓛 opened.ended stayed (opened.clauses 𝓛 mem run)).post (((κ, tt), (q, tt), tt, (s, tt), at), tt)
+
+  abbrev Own : Fml
+  Own = (ShrSlice (named 0) κ u8).own_val s (v ∷ [])
+
+  exits : ent 𝓤 (on_entry 𝓛 opened.signature (κ, tt) (q, tt) (s, tt) at) (Post (T'.lowered made))
+  exits =
+      qed 𝓛 ((‵ (flft κ q) ⊛ ‵ ftrue) ∷ ‵ (owns (ShrSlice (named 0) κ u8 ∷ []) (s, tt) at) ∷ []) ∵
+      suffices ! _ (ends_at 𝓛 opened.ended stayed (opened.clauses 𝓛 mem run) (((κ, tt), (q, tt), tt, (s, tt), at), tt) (T'.lowered made) made (tt, tt) (tt, tt)) $ says ! (refl, refl) $
+      frame ! $ fsplit ! $ use1 𝓛 (‵ Own ⊛ ‵ Own) ((shr_slice_copy 𝓛 (named 0) κ u8).twice s (v ∷ [])) $ split ! $ move ! (0 ∷ 2 ∷ []) $ fjoin ! $ frame ! $
+      -- [what file owns]: what the fields own together, of it and of at's facts, is what the struct owns
+      nothing ! $ owned ! usize (Is usize) (uint_Makes 𝓛 w64) 0 _ (refl, lit< tt) $ fjoin ! $ move ! (1 ∷ 0 ∷ []) $ fjoin ! $ by ! (own_shut 𝓛 (T.the_type α) (T'.the_laws α) (s, (0, tt)))
+
+  module _ (C : Calls 𝓤 H) (Λ : Loops 𝓤 H) where
+    walk : Is (ShrSlice (named 0) κ u8) s (v ∷ []) → ent 𝓤 (on_entry 𝓛 opened.signature (κ, tt) (q, tt) (s, tt) at) (WpFn 𝓤 H C Λ code.function (v ∷ []) Post)
+    walk p =
+        qed 𝓛 (raw (on_entry 𝓛 opened.signature (κ, tt) (q, tt) (s, tt) at) ∷ []) ∵ enter ! C Λ code.function (v ∷ []) _ $
+        alloc1 ! (λ l₀. alloc1 ! (λ l₁. alloc0 ! $ params1 ! $ pass1 ! (init ! 0 refl ((shr_slice_Lawful 𝓛 (named 0) κ u8).typed s (v ∷ []) p).0) $ pass0 ! $
+        assigns ! (agg ! (and_then ! (load ! (from ! (stop !)) (look ! 0 refl)) (and_then ! (lit ! tt) (no_more !)))) (from ! (stop !)) (init ! 2 refl (tt, (((shr_slice_Lawful 𝓛 (named 0) κ u8).typed s (v ∷ []) p).0.1, (record { fits = lit< tt }, tt)))) $
+        returns ! (look ! 2 refl) $ forget ! 0 refl $ forget ! 2 refl $ move ! (2 ∷ 3 ∷ []) $ free1 ! $ free1 ! $ free0 ! $ by ! exits))
+
+module _ {M : Type 1} {𝓤 : Ura M} (𝓛 : Logic 𝓤) (mem : Memory → SProp 𝓤) (run : Routine → Fun 𝓤) where
+  open 𝓛 use {H}
+
+  open-walks : (C : Calls 𝓤 H) (Λ : Loops 𝓤 H) → Walks 𝓛 opened.ended stayed (WpFn 𝓤 H C Λ code.function) (opened.clauses 𝓛 mem run)
+  open-walks C Λ = walked 𝓛 opened.ended stayed (opened.clauses 𝓛 mem run) (WpFn 𝓤 H C Λ code.function) (λ κs. (shr_slice_vals, tt)) (λ κs. (shr_slice_Tells (named 0) κs.0 u8, tt))
+      (λ κs qs bounds a g are. via 𝓤 _ (fst∗ 𝓤 _ (emp 𝓤)) (walk 𝓛 mem run κs.0 qs.0 a.0 C Λ are.0))
+
+open-meets : {M : Type 1} {𝓤 : Ura M} (𝓛 : Logic 𝓤) → (mem : Memory → SProp 𝓤) (run : Routine → Fun 𝓤) (𝓣 : Tables 𝓤 𝓛.H)
+    → Meets 𝓛 opened.signature (WpFn 𝓤 𝓛.H 𝓣.C 𝓣.Λ code.function) (opened.spec 𝓛 mem run)
+open-meets {𝓤 = 𝓤} 𝓛 mem run 𝓣 = walk_Meets 𝓛 opened.ended stayed (Goes-none_slice 𝓛 1 (0 ∷ []) tt (plain (λ _. u8)) yes, tt) (opened.clauses 𝓛 mem run) (WpFn 𝓤 𝓛.H 𝓣.C 𝓣.Λ code.function) (WpFn-mono 𝓤 𝓛.H 𝓛.laws 𝓣 code.function) (open-walks 𝓛 mem run 𝓣.C 𝓣.Λ)
