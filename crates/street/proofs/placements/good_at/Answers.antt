@@ -8,7 +8,7 @@ use Rattle.street.proofs.placements.good_at.Goals as goal
 pub returns-then-good : goal.returns-then-good
 unfolding good_at
 returns-then-good c =
-    and_go _ _ _ (ap good_matrix (sym c.read.ensures) ∙ sym c.good-then-good.ensures ∙ c.if-good.true) (c.good-then-good.ensures ∙ ap good_matrix c.read-then-good.ensures)
+    and_go _ _ _ (ap good_matrix (sym c.read.ensures) ∙ sym c.good.ensures ∙ c.if-good.true) (c.good-then-good.ensures ∙ ap good_matrix c.read-then-good.ensures)
 
 pub returns : goal.returns
 unfolding good_at
