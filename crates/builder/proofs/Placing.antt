@@ -13,7 +13,7 @@ use Rattle.aabb.specs.Bounds.{box_at}
 use Rattle.aabb.specs.Vector.{vector_at}
 use Rattle.aabb.specs.declared.bounds.Aabb.{Aabb}
 use Rattle.builder.specs.Layout.{box_numbers, box_put, boxes_of, link_put, links_of}
-use Rattle.tree.specs.Lent.{Lists, lists_of}
+use Rattle.tree.specs.Lent.{lists_of}
 use Rattle.tree.specs.Node.{linked, node_at, left_of, right_of}
 use Rattle.tree.specs.Holds.{Holds, ChildOf, OnlyChild}
 use Rattle.builder.specs.Runs.{Runs}

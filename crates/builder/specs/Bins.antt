@@ -1,5 +1,5 @@
 -- The sixteen bins of an axis (rules S4 to S6). Definitions only.
-use Rattle.std.specs.Prelude.{ℕ, zero, suc, ◌+◌, Bool, cond, List, [], ◌∷◌, get_or, set, pos, Float}
+use Rattle.std.specs.Prelude.{ℕ, zero, suc, ◌+◌, cond, List, [], ◌∷◌, get_or, set, pos, Float}
 use Rattle.std.specs.Float.{nan, binary64}
 use Rattle.std.specs.Float.Ieee.{sub, mul, le, of_int}
 use Rattle.aabb.specs.declared.bounds.Aabb.{Aabb}

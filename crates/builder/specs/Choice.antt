@@ -1,5 +1,5 @@
 -- The choice of a split (rules S1 to S9). Definitions only.
-use Rattle.std.specs.Prelude.{ℕ, zero, suc, ◌+◌, Bool, cond, List, [], ◌∷◌, length, replicate, leb, eqb, Float}
+use Rattle.std.specs.Prelude.{ℕ, ◌+◌, cond, List, [], ◌∷◌, length, replicate, leb, eqb, Float}
 use Rattle.std.specs.Float.Ieee.{add, sub, mul, div, lt, le}
 use Rattle.std.specs.Float.{binary64}
 use Rattle.float.specs.Number.{nought, one, one_and_half, sixteen, millionth, trillionth}

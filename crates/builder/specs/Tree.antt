@@ -1,5 +1,5 @@
 -- The tree of a range (rules C3 and C8). Definitions only.
-use Rattle.std.specs.Prelude.{ℕ, zero, suc, ◌+◌, List, [], ◌∷◌, ◌++◌, length, take, drop, Float}
+use Rattle.std.specs.Prelude.{ℕ, zero, suc, ◌+◌, List, ◌++◌, length, take, drop, Float}
 use Rattle.std.proofs.Math.Option.{Option, none, some}
 use Rattle.aabb.specs.declared.bounds.Aabb.{Aabb}
 use Rattle.tree.specs.Tree.{Tree, leaf, internal}
@@ -7,7 +7,6 @@ use Rattle.builder.specs.declared.split.SplitDecision.{SplitDecision}
 use Rattle.builder.specs.declared.split.SplitDecision.TheVariants.{Split, MakeLeaf}
 use Rattle.builder.specs.Range.{node_box, centroid_box}
 use Rattle.builder.specs.Choice.{best_split}
-use Rattle.builder.specs.Partition.{Parted}
 use Rattle.builder.specs.Fallback.{separated}
 
 -- a tree, and its range after every partition

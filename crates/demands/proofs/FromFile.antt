@@ -1,6 +1,6 @@
 -- Every mesh that reading gives is admitted: so a build of it is served, or refused for its room (3, 4) or the tree's depth (6). Assumes nothing.
 use Prim.Native.Nat.{ℕ, ◌*◌, ◌/◌, ◌%◌, ◌≤◌}
-use mathlib.Core.Path.{◌≡◌, refl, sym, ap, ◌∙◌}
+use mathlib.Core.Path.{◌≡◌, refl, ap, ◌∙◌}
 use mathlib.Core.Bool.{Bool, true, false, cond}
 use mathlib.Core.Option.{Option, none as nothing, some}
 use mathlib.Core.List.{List}
@@ -8,14 +8,14 @@ use lib.Dec.{ltb}
 use lib.ListN.{length, take}
 use lib.Ieee.{Float}
 use Rattle.lent.specs.Limits.{most_triangles, deepest}
-use Rattle.lent.specs.Ladder.{Refusal, none, numbered, first_failed, answered, unless, triangle_count}
+use Rattle.lent.specs.Ladder.{none, numbered, first_failed, answered, unless, triangle_count}
 use Rattle.lent.proofs.Ladder.{agree, not_below}
 use Rattle.triangle.specs.declared.Unadmitted.TheVariants.{Nothing}
 use Rattle.triangle.specs.Mesh.{first_refused, unadmitted}
 use Rattle.lent.specs.Permutation.{up_to}
 use Rattle.builder.specs.Tree.{Grown, grow}
 use Rattle.builder.specs.Reply.{refused_reply}
-use Rattle.builder.specs.Build.{Outcome, outcome, room, finished, built}
+use Rattle.builder.specs.Build.{outcome, room, finished, built}
 use Rattle.stl.specs.Layout.{mesh_in}
 use Rattle.stl.specs.Answers.{read_as, served}
 use Rattle.stl.specs.Reading.{read_stl}

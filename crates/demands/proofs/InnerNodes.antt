@@ -1,7 +1,7 @@
 -- Inner nodes do not matter (rule G9): accepted trees with the same collection of leaves have the same hit and as many triangle tests. What a ray reaches is told by
 -- the leaves' boxes alone, and each triangle is reached at one place at most. Assumes nothing.
 use mathlib.Core.Path.{◌≡◌, refl, sym, ap, subst, ◌∙◌}
-use mathlib.Core.Logic.{◌⊎◌, inl, inr, ⊎_elim}
+use mathlib.Core.Logic.{inl, inr, ⊎_elim}
 use mathlib.Core.Bool.{Bool, true, false, cond, ◌&&◌, ◌||◌, beq}
 use mathlib.Core.List.{List, [], ◌∷◌, ◌++◌}
 use Prim.Native.Nat.{ℕ, zero, suc, ◌+◌, ◌*◌, ◌≤◌, ◌<◌}
@@ -9,7 +9,7 @@ use native.Mathlib.Omega.{arith}
 use native.Mathlib.Decide.{ℕ_discrete}
 use native.Mathlib.Nat.{eq-or-lt_of_le}
 use borrow.Author.Tests.{le-leb, lt-ltb, ltb-true, ltb-false}
-use lib.Dec.{T, eqb, leb, ltb, eqb→eq}
+use lib.Dec.{T, eqb, ltb, eqb→eq}
 use lib.ListN.{length, get_or, length-append}
 use lib.Ieee.{Float, nan, inf, fin, lt, eq, le, level, up, down}
 use lib.Ieee.Fits.{and_i, and_l, and_r, eq→eqb}
@@ -17,7 +17,7 @@ use Rattle.float.proofs.Cases.{or_l, or_r}
 use Rattle.aabb.specs.declared.vector.Vec3.{Vec3}
 use Rattle.aabb.specs.declared.vector.Ray.{Ray}
 use Rattle.aabb.specs.declared.bounds.Aabb.{Aabb}
-use Rattle.aabb.specs.Vector.{admitted_ray, all, all_at_most, ray_at}
+use Rattle.aabb.specs.Vector.{admitted_ray, all_at_most, ray_at}
 use Rattle.aabb.specs.Bounds.{bounded, is_empty, usable, contains}
 use Rattle.aabb.specs.Slab.{passes}
 use Rattle.aabb.proofs.Inside.{usable_inside}
@@ -27,10 +27,10 @@ use Rattle.lent.specs.Permutation.{Perm, occurs, occ, up_to}
 use Rattle.lent.proofs.Permutation.{occurs_same, occurs_cases, occ_append, occ_at, up_below}
 use Rattle.tree.specs.Lent.{Mesh, Lent, Lists, Labelled, mesh_of, lists_of}
 use Rattle.tree.specs.Node.{node_of, left_of, right_of}
-use Rattle.tree.specs.Tree.{Tree, leaf, internal, held}
+use Rattle.tree.specs.Tree.{Tree, leaf, internal}
 use Rattle.tree.specs.Holds.{Holds, Nested, Finite, covering}
 use Rattle.tree.specs.Leaves.{range_of, numbers, Leaf, leaves_of}
-use Rattle.tree.specs.Accepted.{Walkable, Accepted}
+use Rattle.tree.specs.Accepted.{Accepted}
 use Rattle.walk.specs.Answer.{Told}
 use Rattle.walk.specs.Walk.{walk}
 use Rattle.triangle.specs.declared.Found.{Found}
@@ -47,7 +47,6 @@ use Rattle.builder.specs.Build.{built}
 use Rattle.demands.specs.Handed.{handed}
 use Rattle.demands.specs.Materials.{with_materials}
 use Rattle.demands.proofs.Accepting.{relabelled}
-use Rattle.demands.specs.Demand.{Demand3}
 use Rattle.demands.specs.SameLeaves.{SameNumbers}
 use Rattle.demands.specs.InnerNodes.{SameVector, SameBox, Alike, SameCollection, Rearranged, Agree, AgreeAt}
 use Rattle.demands.proofs.Walking.{reached_most}

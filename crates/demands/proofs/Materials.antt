@@ -1,22 +1,19 @@
 -- The material of a hit is the list's entry of its triangle, and nothing else of an answer depends on the list (request A5): two lists of one length
 -- are carried through the walk side by side, which looks at them only where it is over. Assumes nothing.
-use mathlib.Core.Path.{◌≡◌, refl, sym, ap, ◌∙◌}
-use mathlib.Core.Bool.{Bool, not, cond}
+use mathlib.Core.Path.{◌≡◌, refl, sym, ap}
 use mathlib.Core.List.{List, [], ◌∷◌}
 use Prim.Native.Nat.{ℕ, zero, suc, ◌<◌}
-use lib.Dec.{eqb}
 use lib.ListN.{length}
 use lib.Ieee.{Float}
-use Rattle.lent.specs.Ladder.{Check, Refusal, none, numbered, check, first_failed, answered, unless, ragged, crowded, triangle_count}
+use Rattle.lent.specs.Ladder.{Refusal, none, numbered, answered, unless}
 use Rattle.aabb.specs.declared.vector.Ray.{Ray}
-use Rattle.aabb.specs.Vector.{admitted_ray, ray_at}
+use Rattle.aabb.specs.Vector.{ray_at}
 use Rattle.triangle.specs.declared.Hit.{Hit}
 use Rattle.triangle.specs.declared.Found.{Found}
 use Rattle.triangle.specs.declared.Found.TheVariants.{At, Nothing}
 use Rattle.triangle.specs.Meeting.{hit_at}
 use Rattle.triangle.specs.Mesh.{triangle_at}
 use Rattle.tree.specs.Lent.{Mesh, Lent, material_of, node_count}
-use Rattle.tree.specs.Node.{misfit}
 use Rattle.walk.specs.declared.tally.Nearest.{Nearest}
 use Rattle.walk.specs.declared.tally.Nearest.TheVariants.{Unmet, Met}
 use Rattle.walk.specs.declared.tally.Tally.{Tally}
@@ -26,10 +23,9 @@ use Rattle.walk.specs.Answer.{Told}
 use Rattle.walk.specs.Walk.{start, boxed, refused, hit_of, over, run, walk}
 use Rattle.walk.specs.inner.Turns.{visit, onward}
 use Rattle.walk.proofs.OneMesh.{none_pending, none_left, next_step}
-use Rattle.sky.specs.declared.Place.{Place}
 use Rattle.sky.specs.Sky.{ray_count, placed, place_of, place_at, sky}
 use Rattle.sky.proofs.Room.{place_k}
-use Rattle.demands.specs.Materials.{with_materials, plain, plain_found, SameBut, SamePlaceBut}
+use Rattle.demands.specs.Materials.{with_materials, plain_found, SameBut, SamePlaceBut}
 use Rattle.demands.proofs.NearestHit.{nowhere}
 
 -- ---- what holds of every refusal, and of two walks that are over with one tally, holds of the two walks

@@ -28,7 +28,7 @@ use Rattle.lent.specs.Ladder.{triangle_count}
 use Rattle.tree.specs.Node.{sound, left_of, right_of}
 use Rattle.walk.specs.Walk.{start, boxed, after, tested, run, walk}
 use Rattle.walk.specs.inner.Turns.{scan, open_leaf, opened, judged, visit, onward}
-use Rattle.tree.specs.Tree.{Tree, leaf, internal, box_of, size, leaves, depth, held}
+use Rattle.tree.specs.Tree.{Tree, leaf, internal, box_of, size, depth, held}
 use Rattle.tree.specs.Holds.{IsLeaf, IsInternal, Holds, Nested}
 use Rattle.tree.specs.Node.{node_of}
 use Rattle.tree.specs.Accepted.{Walkable}

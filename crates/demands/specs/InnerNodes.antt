@@ -1,19 +1,15 @@
 -- Two trees with the same leaves, however these are put together (rule G9, request A9). Definitions only.
-use Rattle.std.specs.Prelude.{◌≡◌, List, [], ◌∷◌, ◌++◌, ℕ, ◌<◌, T, Float}
+use Rattle.std.specs.Prelude.{◌≡◌, List, [], ◌∷◌, ◌++◌, T}
 use Rattle.std.specs.Float.Ieee.{eq}
 use Rattle.aabb.specs.declared.vector.Vec3.{Vec3}
-use Rattle.aabb.specs.declared.vector.Ray.{Ray}
 use Rattle.aabb.specs.declared.bounds.Aabb.{Aabb}
-use Rattle.aabb.specs.Vector.{admitted_ray, ray_at}
 use Rattle.lent.specs.Ladder.{none}
 use Rattle.tree.specs.Lent.{Lent}
 use Rattle.tree.specs.Tree.{Tree}
 use Rattle.tree.specs.Leaves.{Leaf, leaves_of}
 use Rattle.tree.specs.Accepted.{Accepted}
 use Rattle.walk.specs.Answer.{Told}
-use Rattle.walk.specs.Walk.{walk}
 use Rattle.sky.specs.declared.Place.{Place}
-use Rattle.sky.specs.Sky.{Filling, ray_count, place_at}
 use Rattle.demands.specs.SameLeaves.{SameNumbers}
 
 -- numerically equal, so that a -0 is a 0

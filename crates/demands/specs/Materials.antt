@@ -1,13 +1,11 @@
 -- What a list of materials changes of an answer (request A5): the material of a hit, and nothing else. Definitions only.
-use Rattle.std.specs.Prelude.{◌≡◌, List, ℕ, Float}
+use Rattle.std.specs.Prelude.{◌≡◌, List, ℕ}
 use Rattle.triangle.specs.declared.Hit.{Hit}
 use Rattle.triangle.specs.declared.Found.{Found}
 use Rattle.triangle.specs.declared.Found.TheVariants.{At, Nothing}
-use Rattle.lent.specs.Ladder.{Refusal}
 use Rattle.tree.specs.Lent.{Lent, mesh_of}
 use Rattle.walk.specs.Answer.{Told}
 use Rattle.sky.specs.declared.Place.{Place}
-use Rattle.sky.specs.Sky.{Filling, place_at}
 
 -- the same lists, with another list of materials
 abbrev pub with_materials : Lent → List ℕ → Lent

@@ -1,5 +1,5 @@
 -- The probe table, P1 to P13: what is asked, and every number that must come of it. Definitions only.
-use Rattle.std.specs.Prelude.{ℕ, zero, suc, ◌+◌, ◌*◌, ◌≡◌, Bool, true, false, List, [], ◌∷◌, ◌++◌, replicate, pos, negsuc, Float}
+use Rattle.std.specs.Prelude.{ℕ, zero, suc, ◌*◌, ◌≡◌, Bool, true, false, List, [], ◌∷◌, ◌++◌, replicate, pos, negsuc, Float}
 use Rattle.std.specs.Float.{inf, fin}
 use Rattle.aabb.specs.declared.vector.Vec3.{Vec3}
 use Rattle.aabb.specs.declared.vector.Ray.{Ray}

@@ -1,5 +1,5 @@
 -- What is signed of a mesh that was read from a file (rule L6): no build of it is refused for the mesh. Definitions only.
-use Rattle.std.specs.Prelude.{Bool, false, ◌||◌, ℕ, eqb}
+use Rattle.std.specs.Prelude.{Bool, false, ◌||◌, eqb}
 use Rattle.lent.specs.Ladder.{Refusal, none, numbered}
 
 -- 1, 2 or 5

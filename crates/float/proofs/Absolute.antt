@@ -1,7 +1,7 @@
 -- The magnitude as code works it out: below zero the sign is turned, and a zero, which fits in one way only, has the magnitude 0.0.
 -- Assumes nothing.
 use mathlib.Core.Path.{◌≡◌, refl, sym, ap}
-use mathlib.Core.Bool.{Bool, true, false, ◌&&◌}
+use mathlib.Core.Bool.{Bool, true, false}
 use Prim.Native.Nat.{ℕ, zero, suc, ◌+◌, ◌*◌}
 use native.Mathlib.Omega.{arith}
 use native.Mathlib.Nat.{zero-lt-suc, mul-pos, zero-mul, pow-suc}

@@ -6,7 +6,7 @@ use Rattle.triangle.specs.declared.Found.{Found}
 use Rattle.triangle.specs.declared.Found.TheVariants.{At, Nothing}
 use Rattle.lent.specs.Ladder.{Refusal, none, numbered}
 use Rattle.walk.specs.Answer.{Told}
-use Rattle.report.specs.Text.{hexadecimal, newline, named, pair}
+use Rattle.report.specs.Text.{hexadecimal, named, pair}
 
 -- Rule I4: "bad input"
 abbrev pub bad_input : List ℕ

@@ -1,5 +1,5 @@
 -- Text, as a list of bytes in ASCII, and what it is to write some into lent room. Definitions only.
-use Rattle.std.specs.Prelude.{◌≡◌, ℕ, zero, suc, ◌+◌, ◌/◌, Bool, true, false, List, [], ◌∷◌, ◌++◌, ltb, length, take, drop}
+use Rattle.std.specs.Prelude.{◌≡◌, ℕ, zero, suc, ◌+◌, ◌/◌, true, false, List, [], ◌∷◌, ◌++◌, ltb, length, take, drop}
 use Rattle.io.specs.Digits.{last_digits}
 
 -- how many decimal digits n has, where k is n or more

@@ -1,5 +1,5 @@
 -- What the code of rows.rt cites: a matrix read row by row, and a local ray by its length. Assumes nothing.
-use mathlib.Core.Path.{◌≡◌, ap, ◌∙◌}
+use mathlib.Core.Path.{◌≡◌, ap}
 use Prim.Native.Nat.{ℕ, ◌+◌, min}
 use native.Mathlib.Nat.{add_assoc, add-zero}
 use mathlib.Core.Bool.{true, false}
@@ -12,7 +12,7 @@ use Rattle.aabb.specs.Vector.{divided, number_at, vector_at, ray_from}
 use Rattle.aabb.proofs.Tests.{vector_from}
 use Rattle.street.specs.declared.rows.Row.{Row}
 use Rattle.street.specs.declared.rows.Local.TheVariants.{Cast, Skipped}
-use Rattle.street.specs.Rows.{row, matrix, row_at, length_of, cast}
+use Rattle.street.specs.Rows.{matrix, row_at, length_of, cast}
 
 -- ---- a matrix that would start beyond the list's end may as well start there
 module _ (l : List Float) (a : ℕ) where

@@ -13,7 +13,7 @@ use lib.Ieee.Fits.{and_i, and_l, and_r, down_pos}
 use lib.Ieee.Positive.{positive, above, above_of_le}
 use lib.Ieee.Scale.{finite}
 use Rattle.lent.specs.Members.{Every}
-use Rattle.float.specs.Number.{nought, half, one, two, two_to_40, infinity, trillionth}
+use Rattle.float.specs.Number.{nought, half, one, two, two_to_40, trillionth}
 use Rattle.float.specs.Pick.{magnitude, lesser, greater}
 use Rattle.float.specs.Root.{root}
 use Rattle.float.proofs.Cases.{true_is}
@@ -25,17 +25,15 @@ use Rattle.aabb.specs.declared.vector.Ray.{Ray}
 use Rattle.aabb.specs.declared.bounds.Aabb.{Aabb}
 use Rattle.aabb.specs.Vector.{vec, all, along, plus, scaled, least, greatest, divided, dot, within, all_within, ray_from, admitted_ray}
 use Rattle.aabb.specs.Bounds.{empty_box, grown, center, bounded}
-use Rattle.aabb.proofs.Axis.{within_along, within_from, all_from}
+use Rattle.aabb.proofs.Axis.{within_along, within_from}
 use Rattle.aabb.proofs.Holds.{bounded_parts}
-use Rattle.triangle.specs.declared.Triangle.{Triangle}
 use Rattle.triangle.specs.Mesh.{admitted_triangle}
 use Rattle.triangle.proofs.Finite.{AllAtMost, dot_most, forty}
 use Rattle.triangle.proofs.UnitNormal.{dot_below, unit_within, new_admitted}
 use Rattle.street.specs.declared.rows.Row.{Row}
 use Rattle.street.specs.declared.rows.Matrix.{Matrix}
-use Rattle.street.specs.declared.rows.Local.{Local}
 use Rattle.street.specs.declared.rows.Local.TheVariants.{Cast, Skipped}
-use Rattle.street.specs.Rows.{two_to_20, small_row, bottom_row, good_matrix, against, through, point_by, direction_by, length_of, cast, local_ray}
+use Rattle.street.specs.Rows.{two_to_20, small_row, good_matrix, against, through, point_by, direction_by, length_of, cast, local_ray}
 use Rattle.street.specs.Placing.{corners, grown_by, world_box, proxy_of}
 use Rattle.street.specs.Served.{finite_box}
 

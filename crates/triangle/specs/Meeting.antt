@@ -1,5 +1,5 @@
 -- A ray against a triangle, by Möller and Trumbore as triangle.rs has it (rules T3 to T5). Definitions only.
-use Rattle.std.specs.Prelude.{ℕ, Bool, true, false, not, ◌&&◌, ◌||◌, cond, Float}
+use Rattle.std.specs.Prelude.{ℕ, Bool, not, ◌&&◌, ◌||◌, cond, Float}
 use Rattle.std.specs.Float.{binary64}
 use Rattle.std.specs.Float.Ieee.{add, mul, div, lt, le}
 use Rattle.float.specs.Number.{nought, one, millionth, ten_billionth}

@@ -1,7 +1,7 @@
 -- Where conditions (i), (ii), (iii) and (vi) hold of a tree over triangles, the lists hold a tree from node 0 on that has every node once. A node's subtree is cut off at so many levels; a
 -- node that isn't reached in fewer than 63 - e steps has no nodes more than e levels below it, so that 63 levels are enough for each. Assumes nothing.
 use mathlib.Core.Path.{◌≡◌, refl, sym, ◌∙◌, ap, subst}
-use mathlib.Core.Bool.{Bool, true, false, not, ◌&&◌, ◌||◌, cond, true≢false}
+use mathlib.Core.Bool.{Bool, true, false, ◌&&◌, ◌||◌, cond, true≢false}
 use mathlib.Core.Logic.{⊎_elim}
 use Prim.Native.Nat.{ℕ, zero, suc, ◌+◌, ◌≤◌, ◌<◌}
 use native.Mathlib.Omega.{arith}

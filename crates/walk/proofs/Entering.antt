@@ -1,19 +1,14 @@
 -- A walk that no check refuses is its steps. Assumes nothing.
 use mathlib.Core.Path.{◌≡◌, refl, ap}
-use mathlib.Core.Bool.{true, false, not, ◌||◌}
-use mathlib.Core.List.{List, [], ◌∷◌}
-use Prim.Native.Nat.{ℕ, ◌*◌, ◌%◌, ◌≤◌, ◌<◌}
-use native.Mathlib.Omega.{arith}
-use borrow.Author.Tests.{eqb-false, eqb-true, ltb-false, not-false}
-use lib.Dec.{eqb, ltb}
+use mathlib.Core.Bool.{true, false, not}
+use mathlib.Core.List.{[], ◌∷◌}
+use Prim.Native.Nat.{◌%◌, ◌≤◌}
 use lib.ListN.{length}
-use lib.Ieee.{Float}
-use Rattle.float.proofs.Cases.{neither}
 use Rattle.aabb.specs.declared.vector.Ray.{Ray}
 use Rattle.aabb.specs.Vector.{admitted_ray}
 use Rattle.tree.specs.Lent.{Lent, Labelled, node_count}
 use Rattle.lent.specs.Ladder.{triangle_count}
-use Rattle.lent.specs.Limits.{most_triangles, most_nodes}
+use Rattle.lent.specs.Limits.{most_triangles}
 use Rattle.tree.specs.Node.{misfit}
 use Rattle.walk.specs.Walk.{start, run, walk}
 use Rattle.lent.proofs.Ladder.{ends, goes, serves, agree, not_below}

@@ -1,6 +1,6 @@
 -- What Euclid's algorithm finds divides both numbers, and whatever divides both divides it. Assumes nothing.
 use mathlib.Core.Path.{◌≡◌, refl, sym, ◌∙◌}
-use mathlib.Core.Logic.{◌⊎◌, ⊎_elim}
+use mathlib.Core.Logic.{⊎_elim}
 use Prim.Native.Nat.{ℕ, zero, suc, ◌%◌, ◌≤◌, ◌<◌, ◌∣◌}
 use native.Mathlib.Nat.{mod-lt, dvd_refl, dvd-zero, dvd-mod_iff, eq-zero_of_zero-dvd}
 use native.Mathlib.Omega.{arith}

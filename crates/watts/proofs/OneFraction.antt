@@ -1,6 +1,6 @@
 -- A fraction has one pair of lowest terms, since a common factor comes out of a greatest common divisor: the share is that pair, or no pair fits in 64 bits. Assumes nothing.
 use mathlib.Core.Path.{◌≡◌, refl, sym, ap, subst, ◌∙◌}
-use mathlib.Core.Logic.{◌⊎◌, ⊎_elim}
+use mathlib.Core.Logic.{⊎_elim}
 use Prim.Native.Nat.{ℕ, zero, suc, ◌+◌, ◌*◌, ◌/◌, ◌%◌, ◌^◌, ◌≤◌, ◌<◌, ◌∣◌}
 use native.Mathlib.Nat.{mul_assoc, mul_right_comm, one-mul, add-mul, mod-lt, div-add-mod', mul-lt-mul_of_pos_right, mul-pos, le-mul_of_pos_right, eq_of_mul-eq-mul_right, dvd-mul_left, dvd-mul_right, dvd_antisymm}
 use native.Mathlib.Omega.{arith}

@@ -1,6 +1,6 @@
 -- A ray is weighed by how its walk ends. The number of a walk's refusal is from 1 to 99, by the walk's own steps: so a refused ray is never weighed as shaded or open. Assumes nothing.
 use mathlib.Core.Path.{◌≡◌, refl}
-use mathlib.Core.Bool.{Bool, true, false, not, ◌||◌, cond}
+use mathlib.Core.Bool.{Bool, true, false, ◌||◌, cond}
 use mathlib.Core.List.{List, [], ◌∷◌}
 use Prim.Native.Nat.{ℕ, zero, suc, ◌+◌, ◌<◌}
 use native.Mathlib.Omega.{arith}
@@ -8,7 +8,7 @@ use lib.Dec.{eqb, ltb, leb}
 use lib.ListN.{length, get_or}
 use lib.Ieee.{Float}
 use Rattle.lent.specs.Limits.{most_pending}
-use Rattle.lent.specs.Ladder.{Check, Refusal, none, numbered, first_failed, answered, unless, triangle_count}
+use Rattle.lent.specs.Ladder.{Check, none, numbered, first_failed, answered, unless, triangle_count}
 use Rattle.lent.specs.Members.{Every}
 use Rattle.lent.proofs.Ladder.{apart}
 use Rattle.aabb.specs.declared.vector.Ray.{Ray}

@@ -11,7 +11,7 @@ use Rattle.lent.specs.Ladder.{Refusal, none, numbered, Check, first_failed, answ
 use Rattle.lent.proofs.Ladder.{ends, goes, serves, judges, judged, further, both_passed, each_passed, agree, agreed, not_below}
 use Rattle.tree.specs.Lent.{Lent}
 use Rattle.sky.specs.declared.Place.{Place}
-use Rattle.sky.specs.Sky.{ray_count, place_for, Filling, filling, filled, sky_checks, sky}
+use Rattle.sky.specs.Sky.{ray_count, Filling, filled, sky_checks, sky}
 use Rattle.sky.proofs.Room.{Passed, passed, none_fails, served_is, place_filled}
 use Rattle.watts.specs.declared.fraction.Terms.{Terms}
 use Rattle.watts.specs.declared.sums.Figures.{Figures}

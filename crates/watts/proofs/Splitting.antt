@@ -2,10 +2,10 @@
 -- Then any number of parts, cut by cut. Assumes nothing.
 use mathlib.Core.Path.{◌≡◌, refl, sym, ap, ◌∙◌}
 use mathlib.Core.List.{List, [], ◌∷◌, ◌++◌}
-use Prim.Native.Nat.{ℕ, zero, suc, ◌+◌, ◌*◌, ◌-◌, ◌≤◌, ◌<◌}
+use Prim.Native.Nat.{ℕ, ◌+◌, ◌*◌, ◌-◌, ◌≤◌, ◌<◌}
 use native.Mathlib.Nat.{add_assoc}
 use native.Mathlib.Omega.{arith}
-use lib.ListN.{length, get_or, take, drop, length-take, length-drop}
+use lib.ListN.{length, take, drop, length-take, length-drop}
 use lib.Seq.{get_or-take, get_or-drop, take_at, length-take-le}
 use lib.Ieee.{Float, nan}
 use Rattle.lent.specs.Limits.{most_rays}
@@ -20,7 +20,7 @@ use Rattle.sky.specs.Sky.{ray_count, place_of, place_for, told_of, told_for, tim
 use Rattle.watts.specs.declared.fraction.Terms.{Terms}
 use Rattle.watts.specs.declared.sums.Figures.{Figures}
 use Rattle.watts.specs.declared.Counted.{Counted}
-use Rattle.watts.specs.declared.Counted.TheVariants.{Report, Refused}
+use Rattle.watts.specs.declared.Counted.TheVariants.{Report}
 use Rattle.watts.specs.Share.{share}
 use Rattle.watts.specs.Watts.{figured, figures, outcome_for, figures_for, report, Outcome, watts}
 use Rattle.watts.specs.Cut.{Served, first_rays, other_rays, added, joined, Joined, Part, AreAll, Roomy, parts_figures, parts_answer, parts_times, parts_told, Together}

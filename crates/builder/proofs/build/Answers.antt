@@ -45,14 +45,14 @@ returns-in-At c =
 
 pub make-requires : goal.make-requires
 make-requires c = record {
-      n_in_bounds = omega arith;
-      n_le_most_triangles = (
+  n_in_bounds = omega arith;
+  n_le_most_triangles = (
     c.if-n-gt-MOST_TRIANGLES.false,
     c.if-index-n.false,
     omega (arith, room_is (length c.args.triangles.now / 12), c.room-room.ensures, c.if-boxes-room.false),
     omega (arith, room_is (length c.args.triangles.now / 12), c.room-room.ensures, c.if-links-room.false),
   );
-    }
+}
 
 pub shape_of-index : goal.shape_of-index
 shape_of-index c = c.make.auto.index

@@ -4,7 +4,7 @@ use Prim.Native.Nat.{ℕ, ◌-◌, ◌<◌}
 use native.Mathlib.Omega.{arith}
 use mathlib.Core.List.{List, ◌++◌}
 use lib.ListN.{length, drop, replicate}
-use lib.Ieee.{Float, le}
+use lib.Ieee.{Float}
 use borrow.Rule.Slice.PartMut.{post_of}
 use Rattle.float.specs.Number.{nought}
 use Rattle.lent.specs.Permutation.{up_to}
@@ -13,7 +13,6 @@ use Rattle.builder.specs.Reply.{reply}
 use Rattle.builder.specs.Layout.{Divided}
 use Rattle.lent.specs.Limits.{deepest}
 use Rattle.builder.specs.Tree.{grow}
-use Rattle.builder.proofs.Heaps.{lent}
 use Rattle.lent.proofs.Permutation.{up_below}
 use Rattle.builder.proofs.Returns.{c_length, front_length_is, lent_again, made_deep, made_done, rest_again, twice_length}
 use Rattle.builder.proofs.make.Goals as goal

@@ -1,5 +1,5 @@
 -- What the steps of the ordering promise each other. Definitions only.
-use Rattle.std.specs.Prelude.{ℕ, ◌+◌, ◌-◌, ◌/◌, ◌≤◌, ◌<◌, ◌≡◌, Bool, false, List, length, get_or}
+use Rattle.std.specs.Prelude.{ℕ, ◌-◌, ◌/◌, ◌≤◌, ◌<◌, ◌≡◌, Bool, false, List, length, get_or}
 
 abbrev pub parent : ℕ → ℕ
 parent j = (j - 1) / 2

@@ -1,6 +1,5 @@
 -- i is at most n, and the mesh keeps its length. Assumes nothing.
 use mathlib.Core.Path.{refl, ◌∙◌}
-use Prim.Native.Nat.{◌-◌}
 use native.Mathlib.Omega.{arith}
 use borrow.Author.Rules.{rules}
 use Rattle.builder_main.proofs.row.Goals as goal

@@ -6,6 +6,6 @@ use Rattle.pigeonmast.proofs.pigeonmast_share.Goals as goal
 pub returns : goal.returns
 unfolding share_numbers
 returns c = record {
-      value = refl;
-      share_after = ap share_numbers c.share-terms.ensures;
-    }
+  value = refl;
+  share_after = ap share_numbers c.share-terms.ensures;
+}

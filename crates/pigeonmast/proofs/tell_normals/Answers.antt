@@ -6,13 +6,13 @@ use Rattle.pigeonmast.proofs.tell_normals.Goals as goal
 pub returns-in-Done : goal.returns-in-Done
 unfolding refill_refusal refusal_number refusal_at
 returns-in-Done c = record {
-      value = rw c.in-Done.is;
-      told_after = rw c.in-Done.is;
-    }
+  value = rw c.in-Done.is;
+  told_after = rw c.in-Done.is;
+}
 
 pub returns-in-Refused : goal.returns-in-Refused
 unfolding refill_refusal refusal_number refusal_at
 returns-in-Refused c = record {
-      value = rw c.in-Refused.is;
-      told_after = rw c.in-Refused.is;
-    }
+  value = rw c.in-Refused.is;
+  told_after = rw c.in-Refused.is;
+}

@@ -6,13 +6,13 @@ use Rattle.pigeonmast.proofs.tell_stl.Goals as goal
 pub returns-in-Done : goal.returns-in-Done
 unfolding told refusal_number how_many stl_told
 returns-in-Done c = record {
-      value = rw c.in-Done.is;
-      told_after = rw c.in-Done.is;
-    }
+  value = rw c.in-Done.is;
+  told_after = rw c.in-Done.is;
+}
 
 pub returns-in-Refused : goal.returns-in-Refused
 unfolding told refusal_number how_many stl_told
 returns-in-Refused c = record {
-      value = rw c.in-Refused.is;
-      told_after = rw c.in-Refused.is;
-    }
+  value = rw c.in-Refused.is;
+  told_after = rw c.in-Refused.is;
+}

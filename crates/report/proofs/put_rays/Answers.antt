@@ -1,6 +1,5 @@
 -- The lines written so far are those of the rays walked. Assumes nothing.
 use mathlib.Core.Path.{◌≡◌, refl, ◌∙◌}
-use Prim.Native.Nat.{◌-◌}
 use borrow.Author.Rules.{rules}
 use native.Mathlib.Omega.{arith}
 use Rattle.report.specs.Survey.{ray_lines}

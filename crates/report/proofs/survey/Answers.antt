@@ -24,9 +24,9 @@ report-requires c = let f = fits _ _ _ (sym c.in-Good.is ∙ c.measure-found.ens
 
 pub returns-in-Bad : goal.returns-in-Bad
 returns-in-Bad c = let w = wrote_as _ _ _ _ _ _ (bad_report _ _ c.measure-found.ensures c.in-Bad.is) c.put.ensures in record {
-      wrote = w;
-      prefix_len = wrote_within _ _ _ _ w;
-    }
+  wrote = w;
+  prefix_len = wrote_within _ _ _ _ w;
+}
 
 pub returns-in-Good : goal.returns-in-Good
 returns-in-Good c =

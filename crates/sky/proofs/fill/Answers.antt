@@ -1,7 +1,7 @@
 -- The first k places are those of the rays walked, and the rest of the room is as it was. Assumes nothing.
 use mathlib.Core.Path.{◌≡◌, refl, ap, ◌∙◌}
 use mathlib.Core.List.{◌++◌}
-use Prim.Native.Nat.{ℕ, ◌*◌, ◌-◌}
+use Prim.Native.Nat.{ℕ, ◌*◌}
 use native.Mathlib.Omega.{arith}
 use borrow.Author.Rules.{rules}
 use lib.ListN.{drop}

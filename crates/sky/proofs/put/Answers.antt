@@ -30,6 +30,6 @@ shape_of-told c = simp length-set
 
 pub returns : goal.returns
 returns c = record {
-      times_after = written 3 _ _ _ _;
-      told_after = written 5 _ _ _ _;
-    }
+  times_after = written 3 _ _ _ _;
+  told_after = written 5 _ _ _ _;
+}

@@ -1,10 +1,10 @@
 -- The loop's invariant: what is left of the walk gives the whole walk's answer. Assumes nothing.
 use mathlib.Core.Path.{◌≡◌, sym, ap, ◌∙◌}
-use Prim.Native.Nat.{ℕ, ◌-◌, ◌^◌, ◌<◌}
+use Prim.Native.Nat.{ℕ, ◌-◌}
 use lib.ListN.{length, get_or}
 use native.Mathlib.Omega.{arith}
 use Rattle.aabb.specs.declared.vector.Ray.{Ray}
-use Rattle.tree.specs.Lent.{Lent, lent, node_count}
+use Rattle.tree.specs.Lent.{lent, node_count}
 use Rattle.walk.specs.Answer.{told}
 use Rattle.walk.specs.inner.Turns.{visit}
 use Rattle.walk.proofs.VisitEnds.{its_ray, its_own}

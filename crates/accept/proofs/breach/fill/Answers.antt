@@ -1,7 +1,7 @@
 -- The first i numbers are the value. Assumes nothing.
 use mathlib.Core.Path.{refl}
-use Prim.Native.Nat.{ℕ, ◌-◌}
-use lib.ListN.{length, replicate, length-set}
+use Prim.Native.Nat.{ℕ}
+use lib.ListN.{replicate, length-set}
 use Rattle.accept.proofs.Fills.{all_written, rep_more}
 use borrow.Author.Rules.{rules}
 use Rattle.accept.proofs.breach.fill.Goals as goal

@@ -1,6 +1,6 @@
 -- Those from the round on give the lowest of all. Assumes nothing.
 use mathlib.Core.Path.{refl, sym, ◌∙◌}
-use Prim.Native.Nat.{◌+◌, ◌-◌, ◌<◌}
+use Prim.Native.Nat.{◌+◌, ◌<◌}
 use native.Mathlib.Omega.{arith}
 use Rattle.accept.specs.inner.Room.{uneven}
 use Rattle.accept.proofs.Lowest.{start, end, part_clear, part_broken}

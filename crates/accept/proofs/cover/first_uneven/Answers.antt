@@ -1,6 +1,5 @@
 -- Those from p on give the lowest of all. Assumes nothing.
 use mathlib.Core.Path.{refl, sym, ◌∙◌}
-use Prim.Native.Nat.{◌-◌}
 use native.Mathlib.Omega.{arith}
 use Rattle.accept.proofs.Lowest.{on, stop, end}
 use Rattle.accept.specs.inner.Room.{uneven}

@@ -2,7 +2,6 @@
 use mathlib.Core.Path.{◌≡◌}
 use Prim.Native.Nat.{◌-◌}
 use Rattle.accept.specs.Lowest.{lowest}
-use Rattle.accept.proofs.Lowest.{end}
 use Prim.Native.Nat.{◌≤◌}
 use Rattle.accept.specs.inner.Room.{uneven}
 use Rattle.accept.proofs.cover.first_uneven.Given as goal

@@ -1,6 +1,5 @@
 -- Those from p on give the lowest of all; the room has 1 for what was seen below p. Assumes nothing.
 use mathlib.Core.Path.{refl, sym, ◌∙◌, ap}
-use Prim.Native.Nat.{◌-◌}
 use native.Mathlib.Omega.{arith}
 use lib.ListN.{length, get_or, length-set}
 use borrow.Author.Tests.{lt-ltb, le-ltb}

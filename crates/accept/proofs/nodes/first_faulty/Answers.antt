@@ -1,7 +1,6 @@
 -- The empty mesh at node 0; else those from i on give the lowest of all. Assumes nothing.
 use mathlib.Core.Path.{sym, ◌∙◌, ap}
 use mathlib.Core.Bool.{not}
-use Prim.Native.Nat.{◌-◌}
 use native.Mathlib.Omega.{arith}
 use Rattle.tree.specs.Lent.{node_count}
 use Rattle.accept.specs.Conditions.{foreign, breaks_1}

@@ -1,6 +1,5 @@
 -- What is left of the way up gives the whole. Assumes nothing.
 use mathlib.Core.Path.{◌≡◌}
-use Prim.Native.Nat.{◌-◌}
 use Rattle.lent.specs.Limits.{deepest}
 use Rattle.accept.specs.inner.Room.{climbs}
 use Rattle.accept.proofs.parents.climbs.Given as goal

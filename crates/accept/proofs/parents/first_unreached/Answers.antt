@@ -1,6 +1,5 @@
 -- Those from j on give the lowest of all. Assumes nothing.
 use mathlib.Core.Path.{sym, ◌∙◌, ap}
-use Prim.Native.Nat.{◌-◌}
 use native.Mathlib.Omega.{arith}
 use Rattle.accept.proofs.Lowest.{start, on, stop, end}
 use mathlib.Core.Bool.{not}

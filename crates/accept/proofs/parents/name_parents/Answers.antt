@@ -1,6 +1,5 @@
 -- After i nodes each node is told by those below i. Assumes nothing.
 use mathlib.Core.Path.{◌≡◌, refl, sym, ◌∙◌, ap}
-use Prim.Native.Nat.{◌-◌}
 use native.Mathlib.Omega.{arith}
 use Rattle.tree.specs.Lent.{node_count}
 use Rattle.accept.specs.inner.Room.{named}

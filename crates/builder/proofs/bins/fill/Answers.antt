@@ -1,5 +1,4 @@
 -- What is left of the range fills the bins so far to the whole, on each axis; no bin counts more than were put in. Assumes nothing.
-use Prim.Native.Nat.{◌-◌}
 use native.Mathlib.Omega.{arith}
 use lib.ListN.{get_or}
 use Rattle.triangle.specs.Mesh.{triangle_at}

@@ -1,9 +1,8 @@
 -- The first k boxes are empty, and the rest as they were. Assumes nothing.
 use mathlib.Core.Path.{◌≡◌, ap, subst}
-use Prim.Native.Nat.{ℕ, ◌-◌}
+use Prim.Native.Nat.{ℕ}
 use native.Mathlib.Omega.{arith}
 use lib.Ieee.{neg}
-use Rattle.float.specs.Number.{infinity}
 use Rattle.builder.proofs.Lanes.{Emptied, emptied_start, emptied_next, emptied_end}
 use borrow.Author.Rules.{rules}
 use Rattle.builder.proofs.bins.vacate.Goals as goal

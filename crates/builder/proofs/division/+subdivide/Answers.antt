@@ -5,34 +5,23 @@ use native.Mathlib.Omega.{arith}
 use mathlib.Core.List.{List, ◌++◌}
 use lib.ListN.{length, length-drop}
 use lib.Seq.{length-take-le}
-use lib.Ieee.{le}
 use borrow.Rule.Slice.PartMut.{mid_of, post_of, put_mid}
-use Rattle.builder.specs.Build.{room}
 use Rattle.lent.specs.Permutation.{occ}
 use Rattle.builder.proofs.Growing.{Mid, both_halves, divided_both, divided_deep, divided_leaf, divided_left, halves_length, left_room, mid, right_room, second_half, then_room}
 use Rattle.builder.proofs.Trees.{left_has, right_has}
-use borrow.Fn.PlainCycle.{is}
-use Rattle.builder.proofs.division.subdivide.Reads as subdivide
-use Rattle.builder.proofs.division.subdivide.Kinds as subdivide-kinds
-use Rattle.builder.proofs.division.+subdivide.Lts-subdivide as subdivide-lts
-use Rattle.builder.proofs.nodes.put_box.Reads as put-box-reads
-use Rattle.builder.proofs.nodes.put_link.Reads as put-link-reads
-use Rattle.builder.proofs.partition.separate.Reads as separate-reads
-use Rattle.builder.proofs.range.around.Reads as around-reads
-use Rattle.builder.proofs.split.find_best_split.Reads as find-best-split-reads
 use Rattle.builder.proofs.division.+subdivide.Goals as goal
 
 pub around-hull-requires : goal.around-hull-requires
 around-hull-requires t c = let p = c.requires in record {
-      numbered = p.numbered;
-      index_len_bound = omega (arith, p.index_bound);
-    }
+  numbered = p.numbered;
+  index_len_bound = omega (arith, p.index_bound);
+}
 
 pub find_best_split-decision-requires : goal.find_best_split-decision-requires
 find_best_split-decision-requires t c = let p = c.requires in record {
-      numbered = p.numbered;
-      index_len_bound = omega (arith, p.index_bound);
-    }
+  numbered = p.numbered;
+  index_len_bound = omega (arith, p.index_bound);
+}
 
 pub returns-in_default : goal.returns-in_default
 returns-in_default t c =

@@ -1,6 +1,6 @@
 -- First the list is a heap from k on; then a heap up to `end`, and in place from there on. Assumes nothing.
-use mathlib.Core.Path.{◌≡◌, ap}
-use Prim.Native.Nat.{◌-◌, ◌≤◌}
+use mathlib.Core.Path.{◌≡◌}
+use Prim.Native.Nat.{◌≤◌}
 use lib.ListN.{length}
 use Rattle.triangle.specs.Mesh.{centroid_at}
 use Rattle.builder.specs.Fallback.{sorts_before}

@@ -1,6 +1,5 @@
 -- What is left of the range gives both boxes from those so far, and no number of these is a NaN. Assumes nothing.
 use mathlib.Core.Path.{sym, ◌∙◌}
-use Prim.Native.Nat.{◌-◌}
 use native.Mathlib.Omega.{arith}
 use lib.ListN.{get_or}
 use Rattle.triangle.specs.Mesh.{triangle_at}

@@ -1,7 +1,7 @@
 -- The first i entries are zero. Assumes nothing.
 use mathlib.Core.Path.{refl}
-use Prim.Native.Nat.{ℕ, ◌-◌}
-use lib.ListN.{length, replicate, length-set}
+use Prim.Native.Nat.{ℕ}
+use lib.ListN.{replicate, length-set}
 use lib.Ieee.{Float}
 use Rattle.float.specs.Number.{nought}
 use Rattle.builder.proofs.StartLoops.{all_written, rep_more}

@@ -1,7 +1,6 @@
 -- The first i entries count up. Assumes nothing.
 use mathlib.Core.Path.{refl}
-use Prim.Native.Nat.{◌-◌}
-use lib.ListN.{length, length-set}
+use lib.ListN.{length-set}
 use Rattle.lent.specs.Permutation.{up_to}
 use Rattle.builder.proofs.StartLoops.{all_written, up_more}
 use borrow.Author.Rules.{rules}

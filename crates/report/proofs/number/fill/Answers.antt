@@ -1,8 +1,7 @@
 -- The numbers written so far are the first of the list. Assumes nothing.
 use mathlib.Core.Path.{refl}
-use Prim.Native.Nat.{◌-◌}
 use borrow.Author.Rules.{rules}
-use lib.ListN.{length, length-set}
+use lib.ListN.{length-set}
 use Rattle.builder.proofs.StartLoops.{all_written}
 use Rattle.report.specs.Little.{numbers}
 use Rattle.report.proofs.Reading.{numbers_more}

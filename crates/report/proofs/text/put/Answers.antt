@@ -1,10 +1,9 @@
 -- What is written so far is the front of the piece. Assumes nothing.
 use mathlib.Core.Path.{refl}
-use Prim.Native.Nat.{◌-◌}
 use native.Mathlib.Omega.{arith}
 use borrow.Author.Rules.{rules}
-use lib.ListN.{length, length-set}
-use lib.Seq.{paste, paste-zero}
+use lib.ListN.{length-set}
+use lib.Seq.{paste-zero}
 use Rattle.report.proofs.Writing.{paste_more, pasted}
 use Rattle.report.proofs.text.put.Goals as goal
 

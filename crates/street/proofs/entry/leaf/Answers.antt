@@ -1,8 +1,6 @@
 -- The entries from here on give what all of them give. Assumes nothing.
 use mathlib.Core.Path.{sym, ap, ◌∙◌}
-use Prim.Native.Nat.{◌-◌}
 use native.Mathlib.Omega.{arith}
-use Rattle.walk.specs.Steps.{entries}
 use Rattle.street.specs.inner.Entries.{went}
 use Rattle.street.proofs.AtPlacement.{entries_all, entries_over, entries_go, entries_stop}
 use Rattle.street.proofs.entry.leaf.Goals as goal

@@ -1,8 +1,7 @@
 -- Those from i on give the lowest of all. Assumes nothing.
 use mathlib.Core.Path.{sym, ◌∙◌}
-use Prim.Native.Nat.{◌-◌}
 use native.Mathlib.Omega.{arith}
-use Rattle.street.specs.Making.{lowest, good_at}
+use Rattle.street.specs.Making.{good_at}
 use Rattle.street.proofs.Searching.{lowest_start, lowest_go, lowest_stop, lowest_end}
 use Rattle.street.proofs.placements.first_bad.Goals as goal
 

@@ -1,8 +1,7 @@
 -- Those from i on give the lowest of all. Assumes nothing.
 use mathlib.Core.Path.{sym, ◌∙◌}
-use Prim.Native.Nat.{◌-◌}
 use native.Mathlib.Omega.{arith}
-use Rattle.street.specs.Making.{lowest, near_at}
+use Rattle.street.specs.Making.{near_at}
 use Rattle.street.proofs.Searching.{lowest_start, lowest_go, lowest_stop, lowest_end}
 use Rattle.street.proofs.placements.first_far.Goals as goal
 

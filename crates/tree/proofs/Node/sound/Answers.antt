@@ -1,8 +1,8 @@
 -- The tests are those of the definition. Assumes nothing.
 use mathlib.Core.Path.{◌≡◌, sym, ◌∙◌}
-use mathlib.Core.Bool.{true, false, not}
+use mathlib.Core.Bool.{true, false}
 use Rattle.aabb.specs.Bounds.{usable}
-use borrow.Author.Tests.{eq-eqb, ne_eqb, not-true, not-false}
+use borrow.Author.Tests.{eq-eqb, ne_eqb}
 use Rattle.tree.specs.Node.{sound}
 use Rattle.tree.proofs.Node.sound.Goals.{After-usable}
 use Rattle.tree.proofs.Node.sound.Goals as goal

@@ -1,5 +1,4 @@
 -- The loop's invariant: the entries from here on have the verdict of all of them. Assumes nothing.
-use Prim.Native.Nat.{◌-◌}
 use mathlib.Core.Path.{refl, sym, ◌∙◌}
 use native.Mathlib.Omega.{arith}
 use Rattle.walk.proofs.Entries.{judging_begun, judging_over, judging_ten, judging_five, judging_again}

@@ -1,5 +1,4 @@
 -- The loop's invariant: the tests from here on leave what all of them leave. Assumes nothing.
-use Prim.Native.Nat.{◌-◌}
 use native.Mathlib.Omega.{arith}
 use Rattle.walk.proofs.Entries.{testing_begun, testing_over, testing_again}
 use Rattle.walk.proofs.leaf.nearest.Goals as goal

@@ -1,10 +1,6 @@
 -- The tests are those of the definition, in its order. Assumes nothing.
-use mathlib.Core.Path.{◌≡◌, sym, ◌∙◌}
-use mathlib.Core.Bool.{true, false, not}
-use mathlib.Core.List.{List}
-use lib.Ieee.{Float}
-use Rattle.tree.specs.Lent.{Lists, lists_of}
-use Rattle.tree.specs.Node.{sound}
+use mathlib.Core.Path.{sym, ◌∙◌}
+use Rattle.tree.specs.Lent.{lists_of}
 use Rattle.walk.proofs.VisitEnds.{not_passed, passed, unsound, outside, at_leaf, at_internal}
 use Rattle.walk.proofs.step.visit.Goals as goal
 

@@ -2,7 +2,6 @@
 use mathlib.Core.Path.{refl, sym, ◌∙◌}
 use native.Mathlib.Nat.{mod-lt}
 use native.Mathlib.Omega.{arith}
-use Rattle.watts.specs.Share.{gcd}
 use Rattle.watts.proofs.Divisor.{gcd_ended, gcd_step}
 use Rattle.watts.proofs.fraction.gcd.Goals as goal
 

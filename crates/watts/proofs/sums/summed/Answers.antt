@@ -1,6 +1,5 @@
 -- The sums are the figures of the places passed, and those are small. Assumes nothing.
 use mathlib.Core.Path.{◌≡◌, ap, ◌∙◌}
-use Prim.Native.Nat.{◌-◌}
 use native.Mathlib.Omega.{arith}
 use borrow.Author.Rules.{rules}
 use Rattle.watts.specs.Watts.{figures}

@@ -1,5 +1,4 @@
 -- No min above its max, then the lowest min and the highest max against the limit, tell the same. Assumes nothing.
-use borrow.Author.Tests.{not-true, not-false}
 use Rattle.aabb.proofs.Limits.{out_of_order, too_low, high_enough}
 use Rattle.aabb.proofs.bounds.Aabb.bounded.Goals as goal
 

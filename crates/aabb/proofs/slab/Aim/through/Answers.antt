@@ -1,7 +1,5 @@
 -- The loop's invariant: the axes that are left, from the interval so far, give the whole answer. Assumes nothing.
 use mathlib.Core.Path.{◌∙◌}
-use mathlib.Core.Logic.{⊎_elim}
-use Prim.Native.Nat.{◌-◌}
 use native.Mathlib.Omega.{arith}
 use Rattle.aabb.specs.Slab.{reach}
 use Rattle.aabb.proofs.Axes.{Here, begun, done, flat_below, flat_above, flat_within, ruled_out, left_open}
@@ -32,8 +30,8 @@ pub loop-axis-preserved : goal.loop-axis-preserved
 unfolding reach
 loop-axis-preserved c =
     elim c.if-s.branch [
-      then-s+else-s-min+else-s-max w ↦ rw (w.enter-is, w.exit-is) (flat_within (here c.before) w.if-s.true w.if-s-min.false w.if-s-max.false)
-    | else-s+else-enter-exit w ↦ rw (w.enter-is, w.exit-is) (left_open (here c.before) w.if-s.false w.first.ensures w.second.ensures w.higher-enter.ensures w.lower-exit.ensures w.if-enter-exit.false)
+      | then-s+else-s-min+else-s-max w ↦ rw (w.enter-is, w.exit-is) (flat_within (here c.before) w.if-s.true w.if-s-min.false w.if-s-max.false)
+      | else-s+else-enter-exit w ↦ rw (w.enter-is, w.exit-is) (left_open (here c.before) w.if-s.false w.first.ensures w.second.ensures w.higher-enter.ensures w.lower-exit.ensures w.if-enter-exit.false)
     ]
 
 pub returns-then-axis-eq3 : goal.returns-then-axis-eq3
