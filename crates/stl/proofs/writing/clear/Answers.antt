@@ -1,12 +1,8 @@
 -- The first i bytes are 0. Assumes nothing.
-use mathlib.Core.Path.{refl}
 use lib.ListN.{length-set}
 use Rattle.stl.proofs.Placing.{zeros_more, zeros_whole}
 use borrow.Author.Rules.{rules}
 use Rattle.stl.proofs.writing.clear.Goals as goal
-
-pub loop-i-init : goal.loop-i-init
-loop-i-init c = (search rules, refl, refl)
 
 pub loop-i-preserved : goal.loop-i-preserved
 loop-i-preserved c =
