@@ -6,9 +6,6 @@ use Rattle.stl.specs.Layout.{mesh_in}
 use Rattle.stl.proofs.Held.{held_go, held_stop}
 use Rattle.stl.proofs.reading.first_refused.Goals as goal
 
-pub admitted-requires : goal.admitted-requires
-admitted-requires c = omega (arith, c.loop-i-test.true, c.requires)
-
 pub loop-i-preserved : goal.loop-i-preserved
 loop-i-preserved c =
     let a = c.args in
