@@ -9,9 +9,6 @@ use lib.Ieee.Fits.{and_i, fits_widens}
 use Rattle.stl.specs.Layout.{widened}
 use Rattle.stl.proofs.bytes.number.Goals as goal
 
-pub float_from_bits-result : goal.float_from_bits-result
-float_from_bits-result c = subst (λ (w : ℕ). T (not (nan_bits binary32 w))) (sym c.word.ensures) c.requires.1
-
 pub float_to_float-result : goal.float_to_float-result
 float_to_float-result c =
     let x = of_bits binary32 c.word.result in

@@ -1,28 +1,10 @@
 -- Those from i on give the lowest of all. Assumes nothing.
 use mathlib.Core.Path.{sym, ◌∙◌}
 use native.Mathlib.Omega.{arith}
-use Rattle.triangle.proofs.Admitting.{refused_start, refused_end}
+use Rattle.triangle.proofs.Admitting.{refused_end}
 use Rattle.stl.specs.Layout.{mesh_in}
 use Rattle.stl.proofs.Held.{held_go, held_stop}
 use Rattle.stl.proofs.reading.first_refused.Goals as goal
-
-pub loop-i-init : goal.loop-i-init
-loop-i-init c = (omega arith, refused_start (mesh_in c.args.s.now c.args.at c.args.n) c.args.n)
-
-pub overflow_mul-i : goal.overflow_mul-i
-overflow_mul-i c = omega (arith, c.loop-i-test.true, c.requires)
-
-pub overflow_add-at : goal.overflow_add-at
-overflow_add-at c = omega (arith, c.loop-i-test.true, c.requires)
-
-pub admitted-requires : goal.admitted-requires
-admitted-requires c = omega (arith, c.loop-i-test.true, c.requires)
-
-pub overflow_add-i : goal.overflow_add-i
-overflow_add-i c = omega (arith, c.loop-i-test.true)
-
-pub loop-i-smaller : goal.loop-i-smaller
-loop-i-smaller c = omega (arith, c.loop-i-test.true)
 
 pub loop-i-preserved : goal.loop-i-preserved
 loop-i-preserved c =

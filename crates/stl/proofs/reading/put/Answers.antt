@@ -1,6 +1,5 @@
 -- Twelve numbers that are no NaNs, each at its place. Assumes nothing.
 use native.Mathlib.Omega.{arith}
-use lib.ListN.{length-set}
 use Rattle.stl.proofs.Filling.{admitted_numbers, put_is}
 use Rattle.stl.proofs.reading.put.Goals as goal
 
@@ -10,71 +9,35 @@ number-requires c = (omega (arith, c.requires.0), (admitted_numbers c.args.s.now
 pub number-requires-2 : goal.number-requires-2
 number-requires-2 c = (omega (arith, c.requires.0), (admitted_numbers c.args.s.now c.args.at c.requires.2).n16)
 
-pub bounds-out-1 : goal.bounds-out-1
-bounds-out-1 c = simp length-set (omega (arith, c.requires.1))
-
 pub number-requires-3 : goal.number-requires-3
 number-requires-3 c = (omega (arith, c.requires.0), (admitted_numbers c.args.s.now c.args.at c.requires.2).n20)
-
-pub bounds-out-2 : goal.bounds-out-2
-bounds-out-2 c = simp length-set (omega (arith, c.requires.1))
 
 pub number-requires-4 : goal.number-requires-4
 number-requires-4 c = (omega (arith, c.requires.0), (admitted_numbers c.args.s.now c.args.at c.requires.2).n24)
 
-pub bounds-out-3 : goal.bounds-out-3
-bounds-out-3 c = simp length-set (omega (arith, c.requires.1))
-
 pub number-requires-5 : goal.number-requires-5
 number-requires-5 c = (omega (arith, c.requires.0), (admitted_numbers c.args.s.now c.args.at c.requires.2).n28)
-
-pub bounds-out-4 : goal.bounds-out-4
-bounds-out-4 c = simp length-set (omega (arith, c.requires.1))
 
 pub number-requires-6 : goal.number-requires-6
 number-requires-6 c = (omega (arith, c.requires.0), (admitted_numbers c.args.s.now c.args.at c.requires.2).n32)
 
-pub bounds-out-5 : goal.bounds-out-5
-bounds-out-5 c = simp length-set (omega (arith, c.requires.1))
-
 pub number-requires-7 : goal.number-requires-7
 number-requires-7 c = (omega (arith, c.requires.0), (admitted_numbers c.args.s.now c.args.at c.requires.2).n36)
-
-pub bounds-out-6 : goal.bounds-out-6
-bounds-out-6 c = simp length-set (omega (arith, c.requires.1))
 
 pub number-requires-8 : goal.number-requires-8
 number-requires-8 c = (omega (arith, c.requires.0), (admitted_numbers c.args.s.now c.args.at c.requires.2).n40)
 
-pub bounds-out-7 : goal.bounds-out-7
-bounds-out-7 c = simp length-set (omega (arith, c.requires.1))
-
 pub number-requires-9 : goal.number-requires-9
 number-requires-9 c = (omega (arith, c.requires.0), (admitted_numbers c.args.s.now c.args.at c.requires.2).n44)
-
-pub bounds-out-8 : goal.bounds-out-8
-bounds-out-8 c = simp length-set (omega (arith, c.requires.1))
 
 pub number-requires-10 : goal.number-requires-10
 number-requires-10 c = (omega (arith, c.requires.0), (admitted_numbers c.args.s.now c.args.at c.requires.2).n0)
 
-pub bounds-out-9 : goal.bounds-out-9
-bounds-out-9 c = simp length-set (omega (arith, c.requires.1))
-
 pub number-requires-11 : goal.number-requires-11
 number-requires-11 c = (omega (arith, c.requires.0), (admitted_numbers c.args.s.now c.args.at c.requires.2).n4)
 
-pub bounds-out-10 : goal.bounds-out-10
-bounds-out-10 c = simp length-set (omega (arith, c.requires.1))
-
 pub number-requires-12 : goal.number-requires-12
 number-requires-12 c = (omega (arith, c.requires.0), (admitted_numbers c.args.s.now c.args.at c.requires.2).n8)
-
-pub bounds-out-11 : goal.bounds-out-11
-bounds-out-11 c = simp length-set (omega (arith, c.requires.1))
-
-pub shape_of-out : goal.shape_of-out
-shape_of-out c = simp length-set
 
 pub returns : goal.returns
 returns c =

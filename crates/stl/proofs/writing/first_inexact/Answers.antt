@@ -2,17 +2,8 @@
 use mathlib.Core.Path.{◌≡◌, sym, ap, ◌∙◌}
 use native.Mathlib.Omega.{arith}
 use Rattle.stl.specs.Writing.{exact_triangle}
-use Rattle.stl.proofs.Exact.{inexact_go, inexact_stop, inexact_end, inexact_start}
+use Rattle.stl.proofs.Exact.{inexact_go, inexact_stop, inexact_end}
 use Rattle.stl.proofs.writing.first_inexact.Goals as goal
-
-pub loop-i-init : goal.loop-i-init
-loop-i-init c = (omega arith, inexact_start c.args.mesh.now c.args.n)
-
-pub overflow_add-i : goal.overflow_add-i
-overflow_add-i c = omega (arith, c.loop-i-test.true)
-
-pub loop-i-smaller : goal.loop-i-smaller
-loop-i-smaller c = omega (arith, c.loop-i-test.true)
 
 pub loop-i-preserved : goal.loop-i-preserved
 loop-i-preserved c =

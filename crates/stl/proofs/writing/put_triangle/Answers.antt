@@ -1,9 +1,7 @@
 -- Four vectors, one after the other, and two zeros. Assumes nothing.
-use mathlib.Core.Path.{sym, ◌∙◌}
-use native.Mathlib.Omega.{arith}
 use lib.Dec.{lit≤}
 use borrow.Rule.Slice.PartMut.{put_mid}
-use Rattle.stl.proofs.Placing.{mid_is, vector_long, length_t1, length_t2, length_t3, placed_length, placed_last, placed_both, record_is}
+use Rattle.stl.proofs.Placing.{mid_is, vector_long, length_t1, length_t2, length_t3, record_is}
 use Rattle.stl.proofs.Exact.{exact_four}
 use Rattle.stl.proofs.writing.put_triangle.Goals as goal
 
@@ -31,30 +29,6 @@ put_vector-requires-4 c =
       mid_is 36 48 50 (put_mid 24 12 (put_mid 12 12 (put_mid 0 12 c.args.out.now p.new.out) q.new.out) r.new.out) (lit≤ tt) (length_t3 c.args.out.now p.new.out c.requires.0 (vector_long _ t.normal p.ensures) q.new.out (vector_long _ t.v0 q.ensures) r.new.out (vector_long _ t.v1 r.ensures)),
       (exact_four t c.requires.1).2,
     )
-
-pub bounds-out-48 : goal.bounds-out-48
-bounds-out-48 c =
-    let p = c.put_vector in
-    let q = c.put_vector-2 in
-    let r = c.put_vector-3 in
-    let w = c.put_vector-4 in
-    omega (arith, placed_length c.args.out.now p.new.out q.new.out r.new.out w.new.out c.args.t c.requires.0 p.ensures q.ensures r.ensures w.ensures)
-
-pub bounds-out-49 : goal.bounds-out-49
-bounds-out-49 c =
-    let p = c.put_vector in
-    let q = c.put_vector-2 in
-    let r = c.put_vector-3 in
-    let w = c.put_vector-4 in
-    placed_last c.args.out.now p.new.out q.new.out r.new.out w.new.out c.args.t c.requires.0 p.ensures q.ensures r.ensures w.ensures
-
-pub shape_of-out : goal.shape_of-out
-shape_of-out c =
-    let p = c.put_vector in
-    let q = c.put_vector-2 in
-    let r = c.put_vector-3 in
-    let w = c.put_vector-4 in
-    placed_both c.args.out.now p.new.out q.new.out r.new.out w.new.out c.args.t c.requires.0 p.ensures q.ensures r.ensures w.ensures ∙ sym c.requires.0
 
 pub returns : goal.returns
 returns c =
