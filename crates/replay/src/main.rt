@@ -51,13 +51,11 @@ fn replay<R: Read>(file: &mut R) -> Score {
 // So many cases, up to the first that cannot be read.
 fn replay_cases<R: Read>(file: &mut R, cases: u32, start: Score) -> Score {
     let mut score = start;
-    let mut left = cases;
-    while 0 < left {
+    for _ in 0..cases {
         score = cases::next(file, score);
         if score.is_faulty() {
             return score;
         }
-        left -= 1;
     }
     score
 }
