@@ -23,7 +23,7 @@ fn main(rt: HostRuntime) {
     tell(&rt, replay(&mut file));
 }
 
-// Writes a line. One that cannot be written is let go: there is nowhere else to tell it.
+// Writes a line. One that cannot be written is let go, and the program ends as if it were.
 fn say(rt: &impl Print, line: &str) {
     let _ = rt.println(line);
 }
