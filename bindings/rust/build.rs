@@ -1,6 +1,6 @@
 //! Links libpigeonmast.a, the proved library, from the folder PIGEONMAST_LIB (read
 //! from the project's root if it is relative; by default target/staticlib,
-//! where `rt staticlib pigeonmast` writes it).
+//! where `bindings/library` writes it).
 
 use std::path::Path;
 use std::{env, process};
@@ -13,7 +13,7 @@ fn main() {
     let library = folder.join("libpigeonmast.a");
     if !library.is_file() {
         eprintln!(
-            "pigeonmast: there is no {}: run `rt staticlib pigeonmast` in the project's root, or set PIGEONMAST_LIB to the folder that has libpigeonmast.a",
+            "pigeonmast: there is no {}: run `bash bindings/library` in the project's root, or set PIGEONMAST_LIB to the folder that has libpigeonmast.a",
             library.display()
         );
         process::exit(1);

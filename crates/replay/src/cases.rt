@@ -243,13 +243,11 @@ fn walk_rays<R: Read>(
     start: Score,
 ) -> Score {
     let mut score = start;
-    let mut left = rays;
-    while 0 < left {
+    for _ in 0..rays {
         score = score.with(walk_ray(file, triangles, materials, index, boxes, links));
         if score.is_faulty() {
             return score;
         }
-        left -= 1;
     }
     score
 }

@@ -65,30 +65,24 @@ fn same_number<R: Read>(file: &mut R, got: f64, exact: bool) -> Check {
 // Lists, one of the above for each place.
 pub fn same_words<R: Read>(file: &mut R, got: &[u32]) -> Check {
     let mut so_far = Check::Same;
-    let mut i = 0;
-    while i < got.len() {
-        so_far = so_far.and(same_word(file, got[i]));
-        i += 1;
+    for x in got {
+        so_far = so_far.and(same_word(file, *x));
     }
     so_far
 }
 
 pub fn same_numbers<R: Read>(file: &mut R, got: &[f64], exact: bool) -> Check {
     let mut so_far = Check::Same;
-    let mut i = 0;
-    while i < got.len() {
-        so_far = so_far.and(same_number(file, got[i], exact));
-        i += 1;
+    for x in got {
+        so_far = so_far.and(same_number(file, *x, exact));
     }
     so_far
 }
 
 pub fn same_longs<R: Read>(file: &mut R, got: &[u64]) -> Check {
     let mut so_far = Check::Same;
-    let mut i = 0;
-    while i < got.len() {
-        so_far = so_far.and(same_long(file, got[i]));
-        i += 1;
+    for x in got {
+        so_far = so_far.and(same_long(file, *x));
     }
     so_far
 }

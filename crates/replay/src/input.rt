@@ -55,39 +55,33 @@ pub fn read_long<R: Read>(file: &mut R) -> Long {
 
 // Fills a list with words; whether they were all there.
 pub fn fill_words<R: Read>(file: &mut R, list: &mut [u32]) -> bool {
-    let mut i = 0;
-    while i < list.len() {
+    for place in list.iter_mut() {
         let Word::Read(x) = read_word(file) else {
             return false;
         };
-        list[i] = x;
-        i += 1;
+        *place = x;
     }
     true
 }
 
 // Fills a list with longs; whether they were all there.
 pub fn fill_longs<R: Read>(file: &mut R, list: &mut [u64]) -> bool {
-    let mut i = 0;
-    while i < list.len() {
+    for place in list.iter_mut() {
         let Long::Read(x) = read_long(file) else {
             return false;
         };
-        list[i] = x;
-        i += 1;
+        *place = x;
     }
     true
 }
 
 // Fills a list with numbers; whether they were all there.
 pub fn fill_numbers<R: Read>(file: &mut R, list: &mut [f64]) -> bool {
-    let mut i = 0;
-    while i < list.len() {
+    for place in list.iter_mut() {
         let Long::Read(x) = read_long(file) else {
             return false;
         };
-        list[i] = float::from_bits(x);
-        i += 1;
+        *place = float::from_bits(x);
     }
     true
 }

@@ -23,7 +23,7 @@ fn main(rt: HostRuntime) {
     tell(&rt, replay(&mut file));
 }
 
-// Writes a line. One that cannot be written is let go: there is nowhere else to tell it.
+// Writes a line. One that cannot be written is let go, and the program ends as if it were.
 fn say(rt: &impl Print, line: &str) {
     let _ = rt.println(line);
 }
@@ -51,13 +51,11 @@ fn replay<R: Read>(file: &mut R) -> Score {
 // So many cases, up to the first that cannot be read.
 fn replay_cases<R: Read>(file: &mut R, cases: u32, start: Score) -> Score {
     let mut score = start;
-    let mut left = cases;
-    while 0 < left {
+    for _ in 0..cases {
         score = cases::next(file, score);
         if score.is_faulty() {
             return score;
         }
-        left -= 1;
     }
     score
 }
