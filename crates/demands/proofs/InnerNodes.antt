@@ -26,6 +26,7 @@ use Rattle.lent.specs.Members.{Every, Some, Member}
 use Rattle.lent.specs.Permutation.{Perm, occurs, occ, up_to}
 use Rattle.lent.proofs.Permutation.{occurs_same, occurs_cases, occ_append, occ_at, up_below}
 use Rattle.tree.specs.Lent.{Mesh, Lent, Lists, Labelled, mesh_of, lists_of}
+use Rattle.tree.specs.Node.{node_of, left_of, right_of}
 use Rattle.tree.specs.Tree.{Tree, leaf, internal, held}
 use Rattle.tree.specs.Holds.{Holds, Nested, Finite, covering}
 use Rattle.tree.specs.Leaves.{range_of, numbers, Leaf, leaves_of}
@@ -92,6 +93,9 @@ unfolding all_at_most
 vectors_le a b e = both (le a.x b.x) (le a.y b.y) (le a.z b.z) (eq_le a.x b.x e.0) (eq_le a.y b.y e.1) (eq_le a.z b.z e.2)
   where
     both : (p q r : Bool) → T p → T q → T r → T (p && (q && r))
+    both false q r h k l = elim h [ ]
+    both true false r h k l = elim k [ ]
+    both true true false h k l = elim l [ ]
     both true true true h k l = tt
 
 passed_too : (r : Ray) (b a : Aabb) → T (admitted_ray r) → T (usable b) → T (bounded a) → SameBox b a → T (passes r a) → T (passes r b)
@@ -353,7 +357,7 @@ one_tree : (s : Lists) (i : ℕ) (t t' : Tree) → Holds s i t → Holds s i t' 
 one_tree s i (leaf b p c) (leaf b' p' c') H K = leaf_one (sym H.bounds ∙ K.bounds) (sym H.first ∙ K.first) (sym H.count ∙ K.count)
 one_tree s i (leaf b p c) (internal b' u v) H K = absurd (omega (arith, H.kind, K.0.kind))
 one_tree s i (internal b u v) (leaf b' p c) H K = absurd (omega (arith, H.0.kind, K.kind))
-one_tree s i (internal b u v) (internal b' u' v') H K = internal_one (sym H.0.bounds ∙ K.0.bounds) (one_tree s _ u u' H.1 K.1) (one_tree s _ v v' H.2 K.2)
+one_tree s i (internal b u v) (internal b' u' v') H K = internal_one (sym H.0.bounds ∙ K.0.bounds) (one_tree s (left_of i (node_of s i)) u u' H.1 K.1) (one_tree s (right_of i (node_of s i)) v v' H.2 K.2)
 
 -- ---- of the call that accepts: two lists that it accepted, over one mesh, with one list of materials, that hold trees with the same leaves
 held_by : (s : Lent) (t : Tree) → Trusted s → Holds s.tree 0 t → (materials : List ℕ) → Accepted (with_materials s materials) t

@@ -1,6 +1,6 @@
-// The calls for Rust and C, built by `rt staticlib pigeonmast`. Each is a public call of the layers below, with its data as plain numbers: a slice
-// passes as pointer and length, `&[f64; 6]` as a pointer. No call asks anything of the numbers; what a call answers and what it leaves in
-// everything lent is fixed on every input (specs/Report.antt).
+// The calls for Rust and C, which the crate pigeonmast_c exports under the same names. Each is a public call of the layers below, with its data as
+// plain numbers: a slice passes as pointer and length, `&[f64; 6]` as a pointer. No call asks anything of the numbers; what a call answers and what
+// it leaves in everything lent is fixed on every input (specs/Report.antt).
 #![tactic(auto)]
 
 ghost use Rattle.std.specs.Prelude.{◌≡◌, [], ◌∷◌};
@@ -185,8 +185,7 @@ fn tell_triangle(found: Found, numbers: &mut [f64; 9]) -> u32
 
 // The number of these calls' form: it rises when a call's parameters, or what it writes, change, so that a caller can tell that its declarations
 // are those of the library it is linked with. A call that is added leaves it as it is.
-#[unsafe(no_mangle)]
-pub extern "C" fn pigeonmast_abi() -> u32
+pub fn pigeonmast_abi() -> u32
     ensures { result ≡ abi }
 {
     3
@@ -247,8 +246,7 @@ fn tell_accept(answer: Verdict, told: &mut [u64; 2]) -> u32
 
 // Builds the tree of the triangles (twelve numbers each: v0, v1, v2, normal) into the lent index list, boxes and links. 0 and told = node
 // count, leaf count; or the refusal number and told = at, 0. `builder::build` says what is written and what is refused.
-#[unsafe(no_mangle)]
-pub extern "C" fn pigeonmast_build(
+pub fn pigeonmast_build(
     triangles: &[f64],
     index: &mut [u32],
     boxes: &mut [f64],
@@ -264,8 +262,7 @@ pub extern "C" fn pigeonmast_build(
 // Walks the ray (origin, direction) through the tree; `materials` has one for each triangle. 100 for a hit: numbers = t, point, normal, u, v; told =
 // triangle, front (1 or 0), box tests, triangle tests, the triangle's material. 0 for a miss: told = 0, 0, box tests, triangle tests, 0. Else the
 // refusal number of `walk::walk`: told = at, 0, 0, 0, 0. numbers stay unchanged unless it is a hit.
-#[unsafe(no_mangle)]
-pub extern "C" fn pigeonmast_walk(
+pub fn pigeonmast_walk(
     triangles: &[f64],
     materials: &[u32],
     index: &[u32],
@@ -285,8 +282,7 @@ pub extern "C" fn pigeonmast_walk(
 // five numbers a ray: outcome (0 a miss, 100 a hit, or a refusal), the triangle's number or the refusal's at, box tests, triangle tests, material,
 // 0 where none applies; room beyond the rays stays. Or refusal 1, 2, 18, 14 or 13 of the whole call (`sky::sky`) with its at; times and told stay
 // unchanged.
-#[unsafe(no_mangle)]
-pub extern "C" fn pigeonmast_sky(
+pub fn pigeonmast_sky(
     triangles: &[f64],
     materials: &[u32],
     index: &[u32],
@@ -304,8 +300,7 @@ pub extern "C" fn pigeonmast_sky(
 }
 
 // The slab test of a box (min x, y, z, max x, y, z) and a ray (origin, direction). 1 and times = enter, exit; or 0 and times unchanged.
-#[unsafe(no_mangle)]
-pub extern "C" fn pigeonmast_slab(bounds: &[f64; 6], ray: &[f64; 6], times: &mut [f64; 2]) -> u32
+pub fn pigeonmast_slab(bounds: &[f64; 6], ray: &[f64; 6], times: &mut [f64; 2]) -> u32
     ensures { test result times.new ≡ slab_report (slab (ray_at ray.now 0) (box_at bounds.now 0)) times.old }
 {
     let span = Aabb::read(bounds, 0).intersect_ray(Ray::read(ray, 0));
@@ -314,12 +309,7 @@ pub extern "C" fn pigeonmast_slab(bounds: &[f64; 6], ray: &[f64; 6], times: &mut
 
 // The test of a triangle (v0, v1, v2, normal) and a ray (origin, direction). 2 front or 1 back with numbers = t, point, normal, u, v; or 0
 // and numbers unchanged.
-#[unsafe(no_mangle)]
-pub extern "C" fn pigeonmast_triangle(
-    triangle: &[f64; 12],
-    ray: &[f64; 6],
-    numbers: &mut [f64; 9],
-) -> u32
+pub fn pigeonmast_triangle(triangle: &[f64; 12], ray: &[f64; 6], numbers: &mut [f64; 9]) -> u32
     ensures { test result numbers.new ≡ triangle_report (strike (ray_at ray.now 0) (triangle_at triangle.now 0) 0 0) numbers.old }
 {
     let found = Triangle::read(triangle, 0).intersect(Ray::read(ray, 0), 0, 0);
@@ -327,16 +317,14 @@ pub extern "C" fn pigeonmast_triangle(
 }
 
 // The square root of x (rule F8). Of a zero and of +inf it is x itself; of a NaN, and of whatever is below zero, a NaN.
-#[unsafe(no_mangle)]
-pub extern "C" fn pigeonmast_root(x: f64) -> f64
+pub fn pigeonmast_root(x: f64) -> f64
     ensures { result ≡ root x }
 {
     float::root(x)
 }
 
 // Makes the triangle (v0, v1, v2, normal) of these corners (v0, v1, v2), with the normal that they give, as `Triangle::new` of the Rust.
-#[unsafe(no_mangle)]
-pub extern "C" fn pigeonmast_new(corners: &[f64; 9], triangle: &mut [f64; 12])
+pub fn pigeonmast_new(corners: &[f64; 9], triangle: &mut [f64; 12])
     ensures { triangle.new ≡ triangle_numbers (new_triangle (vector_at corners.now 0) (vector_at corners.now 3) (vector_at corners.now 6)) }
 {
     let v0 = Vec3::read(corners, 0);
@@ -347,8 +335,7 @@ pub extern "C" fn pigeonmast_new(corners: &[f64; 9], triangle: &mut [f64; 12])
 
 // Refills the normals of the triangles (twelve numbers each) from their corners, in place, and touches nothing else. 0 and told = 0; or refusal 1, 2 or 5
 // (`triangle::refill_normals`) with told = at and the triangles unchanged.
-#[unsafe(no_mangle)]
-pub extern "C" fn pigeonmast_normals(triangles: &mut [f64], told: &mut [u64; 1]) -> u32
+pub fn pigeonmast_normals(triangles: &mut [f64], told: &mut [u64; 1]) -> u32
     ensures { normals result told.new triangles.new ≡ normals_report (refilled triangles.old) }
 {
     let answer = triangle::refill_normals(triangles);
@@ -359,8 +346,7 @@ pub extern "C" fn pigeonmast_normals(triangles: &mut [f64], told: &mut [u64; 1])
 // report = shaded watts (hits), open watts (misses), refused watts, total watts, and shaded over shaded and open together in lowest terms, above and
 // below, 0 and 1 when those are 0. Or the refusal of the whole call with its at, `pigeonmast_sky`'s, 27 or 28 (`watts::watts`); report, times and
 // told stay unchanged.
-#[unsafe(no_mangle)]
-pub extern "C" fn pigeonmast_watts(
+pub fn pigeonmast_watts(
     triangles: &[f64],
     materials: &[u32],
     index: &[u32],
@@ -383,8 +369,7 @@ pub extern "C" fn pigeonmast_watts(
 
 // The share that added figures give: shaded over shaded and open together in lowest terms, share = above, below; 0 and 1 where both are 0; 0 and 0 just
 // where the lower number would pass 64 bits. Answers 0 on every input.
-#[unsafe(no_mangle)]
-pub extern "C" fn pigeonmast_share(shaded: u64, open: u64, share: &mut [u64; 2]) -> u32
+pub fn pigeonmast_share(shaded: u64, open: u64, share: &mut [u64; 2]) -> u32
     ensures value { result ≡ 0 }
     ensures share_after { share.new ≡ share_numbers (share_of shaded «open») }
 {
@@ -395,8 +380,7 @@ pub extern "C" fn pigeonmast_share(shaded: u64, open: u64, share: &mut [u64; 2])
 
 // Judges a tree that was built elsewhere. 0 and told = 0, 0: it is accepted; 19 and told = the number of the first condition broken, 1 to 6, and the
 // lowest place where it breaks; or the refusal number and told = at, 0. `accept::accept` says what is refused, and what the work room holds after it.
-#[unsafe(no_mangle)]
-pub extern "C" fn pigeonmast_accept(
+pub fn pigeonmast_accept(
     triangles: &[f64],
     index: &[u32],
     boxes: &[f64],
@@ -429,8 +413,7 @@ fn tell_stl(answer: stl::Answer, told: &mut [u64; 1]) -> u32
 
 // Reads a file of binary STL into the lent triangles (twelve numbers each) and materials (a 0 each). 0 and told = how many triangles; room beyond them stays. Or
 // refusal 15, 2, 16 or 5 (`stl::read`) with told = at, and triangles and materials unchanged.
-#[unsafe(no_mangle)]
-pub extern "C" fn pigeonmast_read_stl(
+pub fn pigeonmast_read_stl(
     file: &[u8],
     triangles: &mut [f64],
     materials: &mut [u32],
@@ -444,12 +427,7 @@ pub extern "C" fn pigeonmast_read_stl(
 
 // Writes the triangles (twelve numbers each) as a file of binary STL into the lent bytes. 0 and told = how many bytes; room beyond them stays. Or refusal 1, 2, 5,
 // 17 or 16 (`stl::write`) with told = at, and the file unchanged.
-#[unsafe(no_mangle)]
-pub extern "C" fn pigeonmast_write_stl(
-    triangles: &[f64],
-    file: &mut [u8],
-    told: &mut [u64; 1],
-) -> u32
+pub fn pigeonmast_write_stl(triangles: &[f64], file: &mut [u8], told: &mut [u64; 1]) -> u32
     ensures { stl_written result told.new file.new ≡ write_report (write_stl triangles.now file.old) }
 {
     let answer = stl::write(triangles, file);

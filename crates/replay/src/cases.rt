@@ -6,60 +6,61 @@ use crate::compare::Check;
 use crate::input::Word;
 use crate::score::Score;
 use crate::{compare, input, room};
+use std::io::Read;
 
 // The case that the file has next, its kind first.
-pub fn next(fd: i32, score: Score) -> Score {
-    let Word::Read(kind) = input::read_byte(fd) else {
+pub fn next<R: Read>(file: &mut R, score: Score) -> Score {
+    let Word::Read(kind) = input::read_byte(file) else {
         return score.with(Check::Cut);
     };
     match kind {
-        1 | 2 | 5 => lists(fd, kind, score),
-        3 => score.with(slab(fd)),
-        4 => score.with(triangle(fd)),
+        1 | 2 | 5 => lists(file, kind, score),
+        3 => score.with(slab(file)),
+        4 => score.with(triangle(file)),
         _ => score.with(Check::Unknown),
     }
 }
 
-fn slab(fd: i32) -> Check {
+fn slab<R: Read>(file: &mut R) -> Check {
     let mut bounds = [0.0; 6];
-    if !input::fill_numbers(fd, &mut bounds) {
+    if !input::fill_numbers(file, &mut bounds) {
         return Check::Cut;
     }
     let mut ray = [0.0; 6];
-    if !input::fill_numbers(fd, &mut ray) {
+    if !input::fill_numbers(file, &mut ray) {
         return Check::Cut;
     }
     let mut times = [0.0; 2];
     room::numbers(&mut times);
     let answer = pigeonmast::pigeonmast_slab(&bounds, &ray, &mut times);
-    compare::same_word(fd, answer).and(compare::same_times(fd, &times))
+    compare::same_word(file, answer).and(compare::same_times(file, &times))
 }
 
-fn triangle(fd: i32) -> Check {
+fn triangle<R: Read>(file: &mut R) -> Check {
     let mut triangle = [0.0; 12];
-    if !input::fill_numbers(fd, &mut triangle) {
+    if !input::fill_numbers(file, &mut triangle) {
         return Check::Cut;
     }
     let mut ray = [0.0; 6];
-    if !input::fill_numbers(fd, &mut ray) {
+    if !input::fill_numbers(file, &mut ray) {
         return Check::Cut;
     }
     let mut numbers = [0.0; 9];
     room::numbers(&mut numbers);
     let answer = pigeonmast::pigeonmast_triangle(&triangle, &ray, &mut numbers);
-    compare::same_word(fd, answer).and(compare::same_hit(fd, &numbers))
+    compare::same_word(file, answer).and(compare::same_hit(file, &numbers))
 }
 
 // A build, a walk or a sky: the lengths of the four lists (triangles, index, boxes, links), then the case in as much room.
-fn lists(fd: i32, kind: u32, score: Score) -> Score {
+fn lists<R: Read>(file: &mut R, kind: u32, score: Score) -> Score {
     let mut lengths = [0; 4];
-    if !input::fill_words(fd, &mut lengths) {
+    if !input::fill_words(file, &mut lengths) {
         return score.with(Check::Cut);
     }
-    in_room(fd, kind, &lengths, score)
+    in_room(file, kind, &lengths, score)
 }
 
-fn in_room(fd: i32, kind: u32, lengths: &[u32; 4], score: Score) -> Score {
+fn in_room<R: Read>(file: &mut R, kind: u32, lengths: &[u32; 4], score: Score) -> Score {
     let t = size(lengths[0]);
     let i = size(lengths[1]);
     let b = size(lengths[2]);
@@ -81,7 +82,7 @@ fn in_room(fd: i32, kind: u32, lengths: &[u32; 4], score: Score) -> Score {
     let mut boxes = [0.0; 1024];
     let mut links = [0u32; 512];
     in_lists(
-        fd,
+        file,
         kind,
         &mut triangles[0..t],
         &mut index[0..i],
@@ -92,8 +93,8 @@ fn in_room(fd: i32, kind: u32, lengths: &[u32; 4], score: Score) -> Score {
 }
 
 // The triangles come first in each; in a walk and a sky the materials and the tree come next.
-fn in_lists(
-    fd: i32,
+fn in_lists<R: Read>(
+    file: &mut R,
     kind: u32,
     triangles: &mut [f64],
     index: &mut [u32],
@@ -101,21 +102,21 @@ fn in_lists(
     links: &mut [u32],
     score: Score,
 ) -> Score {
-    if !input::fill_numbers(fd, triangles) {
+    if !input::fill_numbers(file, triangles) {
         return score.with(Check::Cut);
     }
     if kind == 1 {
-        return score.with(build(fd, triangles, index, boxes, links));
+        return score.with(build(file, triangles, index, boxes, links));
     }
-    let Word::Read(materials) = input::read_word(fd) else {
+    let Word::Read(materials) = input::read_word(file) else {
         return score.with(Check::Cut);
     };
-    with_materials(fd, kind, triangles, materials, index, boxes, links, score)
+    with_materials(file, kind, triangles, materials, index, boxes, links, score)
 }
 
 // So many materials.
-fn with_materials(
-    fd: i32,
+fn with_materials<R: Read>(
+    file: &mut R,
     kind: u32,
     triangles: &[f64],
     count: u32,
@@ -130,7 +131,7 @@ fn with_materials(
     }
     let mut materials = [0u32; 128];
     in_tree(
-        fd,
+        file,
         kind,
         triangles,
         &mut materials[0..m],
@@ -141,8 +142,8 @@ fn with_materials(
     )
 }
 
-fn in_tree(
-    fd: i32,
+fn in_tree<R: Read>(
+    file: &mut R,
     kind: u32,
     triangles: &[f64],
     materials: &mut [u32],
@@ -151,32 +152,32 @@ fn in_tree(
     links: &mut [u32],
     score: Score,
 ) -> Score {
-    if !fill_tree(fd, materials, index, boxes, links) {
+    if !fill_tree(file, materials, index, boxes, links) {
         return score.with(Check::Cut);
     }
     if kind == 5 {
-        return score.with(sky(fd, triangles, materials, index, boxes, links));
+        return score.with(sky(file, triangles, materials, index, boxes, links));
     }
-    walk(fd, triangles, materials, index, boxes, links, score)
+    walk(file, triangles, materials, index, boxes, links, score)
 }
 
-fn fill_tree(
-    fd: i32,
+fn fill_tree<R: Read>(
+    file: &mut R,
     materials: &mut [u32],
     index: &mut [u32],
     boxes: &mut [f64],
     links: &mut [u32],
 ) -> bool {
-    if !input::fill_words(fd, materials) {
+    if !input::fill_words(file, materials) {
         return false;
     }
-    if !input::fill_words(fd, index) {
+    if !input::fill_words(file, index) {
         return false;
     }
-    if !input::fill_numbers(fd, boxes) {
+    if !input::fill_numbers(file, boxes) {
         return false;
     }
-    input::fill_words(fd, links)
+    input::fill_words(file, links)
 }
 
 fn size(x: u32) -> usize
@@ -185,19 +186,19 @@ fn size(x: u32) -> usize
     x as usize
 }
 
-fn build(
-    fd: i32,
+fn build<R: Read>(
+    file: &mut R,
     triangles: &[f64],
     index: &mut [u32],
     boxes: &mut [f64],
     links: &mut [u32],
 ) -> Check {
     room::lists(index, boxes, links);
-    build_answer(fd, triangles, index, boxes, links)
+    build_answer(file, triangles, index, boxes, links)
 }
 
-fn build_answer(
-    fd: i32,
+fn build_answer<R: Read>(
+    file: &mut R,
     triangles: &[f64],
     index: &mut [u32],
     boxes: &mut [f64],
@@ -205,16 +206,16 @@ fn build_answer(
 ) -> Check {
     let mut told = [0; 2];
     let answer = pigeonmast::pigeonmast_build(triangles, index, boxes, links, &mut told);
-    compare::same_word(fd, answer)
-        .and(compare::same_build(fd, &told))
-        .and(compare::same_words(fd, index))
-        .and(compare::same_numbers(fd, boxes, false))
-        .and(compare::same_words(fd, links))
+    compare::same_word(file, answer)
+        .and(compare::same_build(file, &told))
+        .and(compare::same_words(file, index))
+        .and(compare::same_numbers(file, boxes, false))
+        .and(compare::same_words(file, links))
 }
 
 // A walk's rays, eight at most.
-fn walk(
-    fd: i32,
+fn walk<R: Read>(
+    file: &mut R,
     triangles: &[f64],
     materials: &[u32],
     index: &[u32],
@@ -222,17 +223,17 @@ fn walk(
     links: &[u32],
     score: Score,
 ) -> Score {
-    let Word::Read(rays) = input::read_word(fd) else {
+    let Word::Read(rays) = input::read_word(file) else {
         return score.with(Check::Cut);
     };
     if 8 < rays {
         return score.with(Check::Large);
     }
-    walk_rays(fd, triangles, materials, index, boxes, links, rays, score)
+    walk_rays(file, triangles, materials, index, boxes, links, rays, score)
 }
 
-fn walk_rays(
-    fd: i32,
+fn walk_rays<R: Read>(
+    file: &mut R,
     triangles: &[f64],
     materials: &[u32],
     index: &[u32],
@@ -244,7 +245,7 @@ fn walk_rays(
     let mut score = start;
     let mut left = rays;
     while 0 < left {
-        score = score.with(walk_ray(fd, triangles, materials, index, boxes, links));
+        score = score.with(walk_ray(file, triangles, materials, index, boxes, links));
         if score.is_faulty() {
             return score;
         }
@@ -253,8 +254,8 @@ fn walk_rays(
     score
 }
 
-fn walk_ray(
-    fd: i32,
+fn walk_ray<R: Read>(
+    file: &mut R,
     triangles: &[f64],
     materials: &[u32],
     index: &[u32],
@@ -262,7 +263,7 @@ fn walk_ray(
     links: &[u32],
 ) -> Check {
     let mut ray = [0.0; 6];
-    if !input::fill_numbers(fd, &mut ray) {
+    if !input::fill_numbers(file, &mut ray) {
         return Check::Cut;
     }
     let mut numbers = [0.0; 9];
@@ -278,14 +279,14 @@ fn walk_ray(
         &mut numbers,
         &mut told,
     );
-    compare::same_word(fd, answer)
-        .and(compare::same_hit(fd, &numbers))
-        .and(compare::same_walk(fd, &told))
+    compare::same_word(file, answer)
+        .and(compare::same_hit(file, &numbers))
+        .and(compare::same_walk(file, &told))
 }
 
 // A sky: the lengths of its rays and of its answer room (times, told), then the call in as much room.
-fn sky(
-    fd: i32,
+fn sky<R: Read>(
+    file: &mut R,
     triangles: &[f64],
     materials: &[u32],
     index: &[u32],
@@ -293,14 +294,14 @@ fn sky(
     links: &[u32],
 ) -> Check {
     let mut lengths = [0; 3];
-    if !input::fill_words(fd, &mut lengths) {
+    if !input::fill_words(file, &mut lengths) {
         return Check::Cut;
     }
-    sky_room(fd, triangles, materials, index, boxes, links, &lengths)
+    sky_room(file, triangles, materials, index, boxes, links, &lengths)
 }
 
-fn sky_room(
-    fd: i32,
+fn sky_room<R: Read>(
+    file: &mut R,
     triangles: &[f64],
     materials: &[u32],
     index: &[u32],
@@ -324,7 +325,7 @@ fn sky_room(
     let mut times = [0.0; 64];
     let mut told = [0u64; 128];
     sky_call(
-        fd,
+        file,
         triangles,
         materials,
         index,
@@ -336,8 +337,8 @@ fn sky_room(
     )
 }
 
-fn sky_call(
-    fd: i32,
+fn sky_call<R: Read>(
+    file: &mut R,
     triangles: &[f64],
     materials: &[u32],
     index: &[u32],
@@ -347,26 +348,26 @@ fn sky_call(
     times: &mut [f64],
     told: &mut [u64],
 ) -> Check {
-    if !fill_sky(fd, rays, times, told) {
+    if !fill_sky(file, rays, times, told) {
         return Check::Cut;
     }
     sky_answer(
-        fd, triangles, materials, index, boxes, links, rays, times, told,
+        file, triangles, materials, index, boxes, links, rays, times, told,
     )
 }
 
-fn fill_sky(fd: i32, rays: &mut [f64], times: &mut [f64], told: &mut [u64]) -> bool {
-    if !input::fill_numbers(fd, rays) {
+fn fill_sky<R: Read>(file: &mut R, rays: &mut [f64], times: &mut [f64], told: &mut [u64]) -> bool {
+    if !input::fill_numbers(file, rays) {
         return false;
     }
-    if !input::fill_numbers(fd, times) {
+    if !input::fill_numbers(file, times) {
         return false;
     }
-    input::fill_longs(fd, told)
+    input::fill_longs(file, told)
 }
 
-fn sky_answer(
-    fd: i32,
+fn sky_answer<R: Read>(
+    file: &mut R,
     triangles: &[f64],
     materials: &[u32],
     index: &[u32],
@@ -380,8 +381,8 @@ fn sky_answer(
     let answer = pigeonmast::pigeonmast_sky(
         triangles, materials, index, boxes, links, rays, times, told, &mut at,
     );
-    compare::same_word(fd, answer)
-        .and(compare::same_sky(fd, &at))
-        .and(compare::same_numbers(fd, times, true))
-        .and(compare::same_longs(fd, told))
+    compare::same_word(file, answer)
+        .and(compare::same_sky(file, &at))
+        .and(compare::same_numbers(file, times, true))
+        .and(compare::same_longs(file, told))
 }

@@ -1,4 +1,5 @@
 // Words (u32), longs (u64) and numbers (the eight bytes of an f64) from the file, little-endian, one after the other.
+use std::io::Read;
 
 // What was read, or that the file ended before it.
 #[derive(Clone, Copy)]
@@ -26,37 +27,37 @@ fn word_of(b: &[u8; 4]) -> u32 {
 }
 
 // A byte, as a word.
-pub fn read_byte(fd: i32) -> Word {
+pub fn read_byte<R: Read>(file: &mut R) -> Word {
     let mut b = [0u8; 4];
-    if io::read_full(fd, &mut b[0..1]) != 1 {
+    if file.read_exact(&mut b[0..1]).is_err() {
         return Word::Cut;
     }
     Word::Read(word_of(&b))
 }
 
-pub fn read_word(fd: i32) -> Word {
+pub fn read_word<R: Read>(file: &mut R) -> Word {
     let mut b = [0u8; 4];
-    if io::read_full(fd, &mut b) != 4 {
+    if file.read_exact(&mut b).is_err() {
         return Word::Cut;
     }
     Word::Read(word_of(&b))
 }
 
-pub fn read_long(fd: i32) -> Long {
-    let Word::Read(low) = read_word(fd) else {
+pub fn read_long<R: Read>(file: &mut R) -> Long {
+    let Word::Read(low) = read_word(file) else {
         return Long::Cut;
     };
-    let Word::Read(high) = read_word(fd) else {
+    let Word::Read(high) = read_word(file) else {
         return Long::Cut;
     };
     Long::Read(wider(low) | (wider(high) << 32))
 }
 
 // Fills a list with words; whether they were all there.
-pub fn fill_words(fd: i32, list: &mut [u32]) -> bool {
+pub fn fill_words<R: Read>(file: &mut R, list: &mut [u32]) -> bool {
     let mut i = 0;
     while i < list.len() {
-        let Word::Read(x) = read_word(fd) else {
+        let Word::Read(x) = read_word(file) else {
             return false;
         };
         list[i] = x;
@@ -66,10 +67,10 @@ pub fn fill_words(fd: i32, list: &mut [u32]) -> bool {
 }
 
 // Fills a list with longs; whether they were all there.
-pub fn fill_longs(fd: i32, list: &mut [u64]) -> bool {
+pub fn fill_longs<R: Read>(file: &mut R, list: &mut [u64]) -> bool {
     let mut i = 0;
     while i < list.len() {
-        let Long::Read(x) = read_long(fd) else {
+        let Long::Read(x) = read_long(file) else {
             return false;
         };
         list[i] = x;
@@ -79,10 +80,10 @@ pub fn fill_longs(fd: i32, list: &mut [u64]) -> bool {
 }
 
 // Fills a list with numbers; whether they were all there.
-pub fn fill_numbers(fd: i32, list: &mut [f64]) -> bool {
+pub fn fill_numbers<R: Read>(file: &mut R, list: &mut [f64]) -> bool {
     let mut i = 0;
     while i < list.len() {
-        let Long::Read(x) = read_long(fd) else {
+        let Long::Read(x) = read_long(file) else {
             return false;
         };
         list[i] = float::from_bits(x);

@@ -11,45 +11,49 @@ mod cases; // cases.rt: the five kinds of cases
 
 use compare::Check;
 use input::Word;
-use libc::STDOUT_FILENO;
 use score::Score;
+use std::fs;
+use std::io::Read;
 
-fn main() {
-    let fd = os::open_read(b"answers.bin");
-    if fd < 0 {
-        io::write_all(STDOUT_FILENO, b"replay: answers.bin cannot be opened\n");
+fn main(rt: HostRuntime) {
+    let Ok(mut file) = fs::open(&rt, "answers.bin") else {
+        say(&rt, "replay: answers.bin cannot be opened");
         return;
-    }
-    tell(replay(fd));
-    libc::close(fd);
+    };
+    tell(&rt, replay(&mut file));
+}
+
+// Writes a line. One that cannot be written is let go: there is nowhere else to tell it.
+fn say(rt: &impl Print, line: &str) {
+    let _ = rt.println(line);
 }
 
 // The whole file: PIGEON03, how many cases, the cases, and nothing after them.
-fn replay(fd: i32) -> Score {
+fn replay<R: Read>(file: &mut R) -> Score {
     let start = Score::new(0, 0, Check::Same);
-    let head = compare::same_words(fd, &[0x4547_4950, 0x3330_4e4f]);
+    let head = compare::same_words(file, &[0x4547_4950, 0x3330_4e4f]);
     let Check::Same = head else {
         return start.with(Check::Unknown);
     };
-    let Word::Read(cases) = input::read_word(fd) else {
+    let Word::Read(cases) = input::read_word(file) else {
         return start.with(Check::Cut);
     };
-    let score = replay_cases(fd, cases, start);
+    let score = replay_cases(file, cases, start);
     if score.is_faulty() {
         return score;
     }
-    let Word::Cut = input::read_byte(fd) else {
+    let Word::Cut = input::read_byte(file) else {
         return score.with(Check::Unknown);
     };
     score
 }
 
 // So many cases, up to the first that cannot be read.
-fn replay_cases(fd: i32, cases: u32, start: Score) -> Score {
+fn replay_cases<R: Read>(file: &mut R, cases: u32, start: Score) -> Score {
     let mut score = start;
     let mut left = cases;
     while 0 < left {
-        score = cases::next(fd, score);
+        score = cases::next(file, score);
         if score.is_faulty() {
             return score;
         }
@@ -58,29 +62,19 @@ fn replay_cases(fd: i32, cases: u32, start: Score) -> Score {
     score
 }
 
-fn tell(score: Score) {
+fn tell(rt: &impl Print, score: Score) {
     let last = score.last;
     match last {
-        Check::Cut => {
-            io::write_all(STDOUT_FILENO, b"replay: answers.bin ends early\n");
-        }
-        Check::Large => {
-            io::write_all(
-                STDOUT_FILENO,
-                b"replay: a list of answers.bin is longer than the room for it\n",
-            );
-        }
-        Check::Unknown => {
-            io::write_all(
-                STDOUT_FILENO,
-                b"replay: answers.bin is not of the form PIGEON03\n",
-            );
-        }
+        Check::Cut => say(rt, "replay: answers.bin ends early"),
+        Check::Large => say(
+            rt,
+            "replay: a list of answers.bin is longer than the room for it",
+        ),
+        Check::Unknown => say(rt, "replay: answers.bin is not of the form PIGEON03"),
         Check::Same | Check::Differs => {
-            io::print_decimal(STDOUT_FILENO, score.compared);
-            io::write_all(STDOUT_FILENO, b" compared, ");
-            io::print_decimal(STDOUT_FILENO, score.differ);
-            io::write_all(STDOUT_FILENO, b" differ\n");
+            let compared = score.compared;
+            let differ = score.differ;
+            let _ = println!(rt; "{compared} compared, {differ} differ");
         }
     }
 }

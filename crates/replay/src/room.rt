@@ -6,7 +6,7 @@ pub fn words(list: &mut [u32]) {
     let mut i = 0;
     while i < list.len() {
         list[i] = next;
-        next = std::num::wrapping_add_u32(next, 1);
+        next = next.wrapping_add(1);
         i += 1;
     }
 }

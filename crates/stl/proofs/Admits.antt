@@ -1,8 +1,8 @@
 -- A triangle of a file is admitted just where twelve patterns, each with a margin added to it, stay below 2^31. Assumes nothing.
-use mathlib.Core.Path.{◌≡◌, refl, subst}
-use Prim.Native.Nat.{ℕ, ◌+◌, ◌*◌, ◌%◌, ◌≤◌, ◌<◌}
+use mathlib.Core.Path.{◌≡◌, subst}
+use Prim.Native.Nat.{ℕ, ◌+◌, ◌*◌, ◌%◌, ◌<◌}
 use native.Mathlib.Omega.{arith}
-use mathlib.Core.Bool.{Bool, true, false, not, ◌&&◌}
+use mathlib.Core.Bool.{not, ◌&&◌}
 use mathlib.Core.List.{List}
 use lib.Dec.{T, eqb, eqb→eq, lit<, lit≤}
 use lib.Bits.{bit_and, bit_or, or_lt}

@@ -1,6 +1,6 @@
 -- What was written reads back: four bytes are their word, a record its triangle, and so on up to the whole file. Assumes nothing.
 use mathlib.Core.Path.{◌≡◌, refl, sym, ap, ◌∙◌}
-use Prim.Native.Nat.{ℕ, zero, suc, ◌+◌, ◌-◌, ◌*◌, ◌/◌, ◌%◌, ◌≤◌, ◌<◌}
+use Prim.Native.Nat.{ℕ, zero, suc, ◌+◌, ◌*◌, ◌/◌, ◌%◌, ◌≤◌, ◌<◌}
 use native.Mathlib.Nat.{add_assoc, div-div-eq-div-mul, mod-eq_of_lt}
 use native.Mathlib.Omega.{arith}
 use mathlib.Core.Bool.{not}

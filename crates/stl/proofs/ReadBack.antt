@@ -11,7 +11,7 @@ use Rattle.lent.specs.Ladder.{triangle_count}
 use Rattle.triangle.specs.declared.Triangle.{Triangle}
 use Rattle.triangle.specs.declared.Unadmitted.TheVariants.{Nothing}
 use Rattle.triangle.specs.Mesh.{triangle_at, admitted_triangle, first_refused}
-use Rattle.stl.specs.Layout.{file_length, word, triangle_in, mesh_in, file_of}
+use Rattle.stl.specs.Layout.{triangle_in, mesh_in, file_of}
 use Rattle.stl.specs.Answers.{read_as, written_as, served}
 use Rattle.stl.specs.Reading.{read_stl}
 use Rattle.stl.specs.Writing.{write_stl}

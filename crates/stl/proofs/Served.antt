@@ -8,13 +8,13 @@ use lib.ListN.{length, drop, replicate}
 use lib.Ieee.{Float}
 use borrow.Author.Tests.{eqb-true, ltb-false, not-false}
 use Rattle.lent.specs.Limits.{most_triangles}
-use Rattle.lent.specs.Ladder.{Refusal, none, numbered, triangle_count}
+use Rattle.lent.specs.Ladder.{none, numbered, triangle_count}
 use Rattle.lent.proofs.Ladder.{all_passed}
 use Rattle.triangle.specs.declared.Unadmitted.TheVariants.{Nothing}
 use Rattle.triangle.specs.Mesh.{triangle_at, admitted_triangle, first_refused}
 use Rattle.triangle.proofs.Admitting.{none_unadmitted, none_refused}
 use Rattle.stl.specs.Layout.{file_length, word, mesh_in, file_of}
-use Rattle.stl.specs.Answers.{Read, read_as, Written, written_as, served, refused}
+use Rattle.stl.specs.Answers.{Read, read_as, Written, written_as, served}
 use Rattle.stl.specs.Reading.{read_count, read_from, read_stl}
 use Rattle.stl.specs.Writing.{exact_triangle, first_inexact, write_count, write_stl}
 use Rattle.stl.proofs.Exact.{all_exact}

@@ -9,7 +9,7 @@ use mathlib.Core.List.{List, [], ◌∷◌, ◌++◌, append_assoc}
 use lib.Dec.{T}
 use lib.ListN.{length, take, drop, get_or, replicate}
 use lib.Seq.{take_at}
-use lib.Ieee.{Float, binary32, of_bits, to_bits, fits, is_nan, nan_bits}
+use lib.Ieee.{Float, binary32, of_bits, fits, is_nan, nan_bits}
 use lib.Ieee.Bits.{of_bits-fits, to_bits-of_bits, nan_bits_is}
 use lib.Ieee.Fits.{and_i}
 use Rattle.lent.specs.Limits.{most_triangles}
@@ -20,7 +20,7 @@ use Rattle.float.specs.Single.{exactly32}
 use Rattle.aabb.specs.Vector.{all}
 use Rattle.triangle.specs.declared.Triangle.{Triangle}
 use Rattle.triangle.specs.declared.Unadmitted.TheVariants.{Nothing}
-use Rattle.triangle.specs.Mesh.{triangle_at, admitted_triangle, first_refused}
+use Rattle.triangle.specs.Mesh.{triangle_at, first_refused}
 use Rattle.stl.specs.Layout.{file_length, word, bytes_of, widened, narrowed, vector_in, triangle_in, vector_bytes, record_of, mesh_in, records_of, file_of}
 use Rattle.stl.specs.Answers.{read_as, written_as, served}
 use Rattle.stl.specs.Reading.{read_stl}

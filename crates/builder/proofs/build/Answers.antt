@@ -44,24 +44,24 @@ returns-in-At c =
     (bad_at (sym c.first_refused-bad.ensures ∙ c.in-At.is) refl)
 
 pub make-requires : goal.make-requires
-make-requires c = (
-  omega arith,
-  (
+make-requires c = record {
+      n_in_bounds = omega arith;
+      n_le_most_triangles = (
     c.if-n-gt-MOST_TRIANGLES.false,
     c.if-index-n.false,
     omega (arith, room_is (length c.args.triangles.now / 12), c.room-room.ensures, c.if-boxes-room.false),
     omega (arith, room_is (length c.args.triangles.now / 12), c.room-room.ensures, c.if-links-room.false),
-  ),
-)
+  );
+    }
 
 pub shape_of-index : goal.shape_of-index
-shape_of-index c = c.make.auto.1.0
+shape_of-index c = c.make.auto.index
 
 pub shape_of-boxes : goal.shape_of-boxes
-shape_of-boxes c = c.make.auto.1.1.0
+shape_of-boxes c = c.make.auto.boxes
 
 pub shape_of-links : goal.shape_of-links
-shape_of-links c = c.make.auto.1.1.1.0
+shape_of-links c = c.make.auto.links
 
 pub returns : goal.returns
 returns c =

@@ -23,22 +23,25 @@ subdivide-made-requires c =
     let a = c.args in
     let u = c.count_up in
     let le = c.requires.n_le_most_triangles.1 in
-    let part = ap length (lent_again a.index.now u.new.0 a.n le u.auto.0) ∙ c_length a.index.now u.new.0 a.n le u.auto.0 in
-    let counted = lent_again a.index.now u.new.0 a.n le u.auto.0 ∙ u.ensures ∙ ap up_to (front_length_is a.index.now u.new.0 a.n le u.auto.0) in
-    (λ v i. let o = up_below a.n v (subst (λ (l : List ℕ). 0 < occ v l) counted i) in omega (arith, o, c.requires.n_in_bounds), ((omega (arith, part, c.requires.n_le_most_triangles), omega (arith, part, c.requires.n_le_most_triangles), omega (arith, part, c.requires.n_le_most_triangles)), (omega (arith, part, c.requires.n_le_most_triangles), omega (arith, part, c.requires.n_le_most_triangles))))
+    let part = ap length (lent_again a.index.now u.new.index a.n le u.auto.index) ∙ c_length a.index.now u.new.index a.n le u.auto.index in
+    let counted = lent_again a.index.now u.new.index a.n le u.auto.index ∙ u.ensures ∙ ap up_to (front_length_is a.index.now u.new.index a.n le u.auto.index) in record {
+      numbered = λ v i. let o = up_below a.n v (subst (λ (l : List ℕ). 0 < occ v l) counted i) in omega (arith, o, c.requires.n_in_bounds);
+      index_bound = (omega (arith, part, c.requires.n_le_most_triangles), omega (arith, part, c.requires.n_le_most_triangles), omega (arith, part, c.requires.n_le_most_triangles));
+      index_in_bounds = (omega (arith, part, c.requires.n_le_most_triangles), omega (arith, part, c.requires.n_le_most_triangles));
+    }
 
 pub shape_of-index-in_default : goal.shape_of-index-in_default
 shape_of-index-in_default c =
     let a = c.args in
     let u = c.count_up in
     let d = c.subdivide-made in
-    c.clear.auto.0 ∙ twice_length a.index.now u.new.0 a.n c.requires.n_le_most_triangles.1 u.auto.0 d.new.1.0 d.auto.1.0
+    c.clear.auto.s ∙ twice_length a.index.now u.new.index a.n c.requires.n_le_most_triangles.1 u.auto.index d.new.index d.auto.index
 
 pub shape_of-boxes-in_default : goal.shape_of-boxes-in_default
-shape_of-boxes-in_default c = c.clear_floats.auto.0 ∙ c.subdivide-made.auto.1.1.0
+shape_of-boxes-in_default c = c.clear_floats.auto.s ∙ c.subdivide-made.auto.boxes
 
 pub shape_of-links-in_default : goal.shape_of-links-in_default
-shape_of-links-in_default c = c.clear-in_default.auto.0 ∙ c.subdivide-made.auto.1.1.1.0
+shape_of-links-in_default c = c.clear-in_default.auto.s ∙ c.subdivide-made.auto.links
 
 pub returns-in_default : goal.returns-in_default
 unfolding reply
@@ -47,28 +50,28 @@ returns-in_default c =
     let u = c.count_up in
     let d = c.subdivide-made in
     let le = c.requires.n_le_most_triangles.1 in
-    let lent = lent_again a.index.now u.new.0 a.n le u.auto.0 ∙ u.ensures ∙ ap up_to (front_length_is a.index.now u.new.0 a.n le u.auto.0) in
-    let laid = subst (λ (z : List ℕ). Divided (grow a.triangles.now deepest 0 z) 0 1 a.boxes.now a.links.now d.result d.new.1.0 d.new.1.1.0 d.new.1.1.1.0) lent d.ensures in
+    let lent = lent_again a.index.now u.new.index a.n le u.auto.index ∙ u.ensures ∙ ap up_to (front_length_is a.index.now u.new.index a.n le u.auto.index) in
+    let laid = subst (λ (z : List ℕ). Divided (grow a.triangles.now deepest 0 z) 0 1 a.boxes.now a.links.now d.result d.new.index d.new.boxes d.new.links) lent d.ensures in
     let x = c.clear in
     let y = c.clear_floats in
     let z = c.clear-in_default in
-    made_deep a.n (grow a.triangles.now deepest 0 (up_to a.n)) d.result a.index.now d.new.1.0 x.new.0 a.boxes.now d.new.1.1.0 y.new.0 a.links.now d.new.1.1.1.0 z.new.0 laid c.in_default.is
-    (x.ensures ∙ ap (λ (k : ℕ). replicate {A = ℕ} k 0) (twice_length a.index.now u.new.0 a.n le u.auto.0 d.new.1.0 d.auto.1.0))
-    (y.ensures ∙ ap (λ (k : ℕ). replicate {A = Float} k nought) d.auto.1.1.0)
-    (z.ensures ∙ ap (λ (k : ℕ). replicate {A = ℕ} k 0) d.auto.1.1.1.0)
+    made_deep a.n (grow a.triangles.now deepest 0 (up_to a.n)) d.result a.index.now d.new.index x.new.s a.boxes.now d.new.boxes y.new.s a.links.now d.new.links z.new.s laid c.in_default.is
+    (x.ensures ∙ ap (λ (k : ℕ). replicate {A = ℕ} k 0) (twice_length a.index.now u.new.index a.n le u.auto.index d.new.index d.auto.index))
+    (y.ensures ∙ ap (λ (k : ℕ). replicate {A = Float} k nought) d.auto.boxes)
+    (z.ensures ∙ ap (λ (k : ℕ). replicate {A = ℕ} k 0) d.auto.links)
 
 pub shape_of-index : goal.shape_of-index
 shape_of-index c =
     let a = c.args in
     let u = c.count_up in
     let d = c.subdivide-made in
-    twice_length a.index.now u.new.0 a.n c.requires.n_le_most_triangles.1 u.auto.0 d.new.1.0 d.auto.1.0
+    twice_length a.index.now u.new.index a.n c.requires.n_le_most_triangles.1 u.auto.index d.new.index d.auto.index
 
 pub shape_of-boxes : goal.shape_of-boxes
-shape_of-boxes c = c.subdivide-made.auto.1.1.0
+shape_of-boxes c = c.subdivide-made.auto.boxes
 
 pub shape_of-links : goal.shape_of-links
-shape_of-links c = c.subdivide-made.auto.1.1.1.0
+shape_of-links c = c.subdivide-made.auto.links
 
 pub returns : goal.returns
 unfolding reply
@@ -77,8 +80,7 @@ returns c =
     let u = c.count_up in
     let d = c.subdivide-made in
     let le = c.requires.n_le_most_triangles.1 in
-    let lent = lent_again a.index.now u.new.0 a.n le u.auto.0 ∙ u.ensures ∙ ap up_to (front_length_is a.index.now u.new.0 a.n le u.auto.0) in
-    let laid = subst (λ (z : List ℕ). Divided (grow a.triangles.now deepest 0 z) 0 1 a.boxes.now a.links.now d.result d.new.1.0 d.new.1.1.0 d.new.1.1.1.0) lent d.ensures in
-    let m = c.made-1.given in
-    made_done a.n m.0.0 (grow a.triangles.now deepest 0 (up_to a.n)) d.result a.index.now d.new.1.0 (d.new.1.0 ++ drop (a.n - 0) (u.new.0 ++ post_of 0 (a.n - 0) a.index.now)) a.boxes.now d.new.1.1.0 a.links.now d.new.1.1.1.0 laid m.1
-    (ap (λ (z : List ℕ). d.new.1.0 ++ z) (rest_again a.index.now u.new.0 a.n le u.auto.0))
+    let lent = lent_again a.index.now u.new.index a.n le u.auto.index ∙ u.ensures ∙ ap up_to (front_length_is a.index.now u.new.index a.n le u.auto.index) in
+    let laid = subst (λ (z : List ℕ). Divided (grow a.triangles.now deepest 0 z) 0 1 a.boxes.now a.links.now d.result d.new.index d.new.boxes d.new.links) lent d.ensures in
+    made_done a.n c.in-Next.nodes (grow a.triangles.now deepest 0 (up_to a.n)) d.result a.index.now d.new.index (d.new.index ++ drop (a.n - 0) (u.new.index ++ post_of 0 (a.n - 0) a.index.now)) a.boxes.now d.new.boxes a.links.now d.new.links laid c.in-Next.is
+    (ap (λ (z : List ℕ). d.new.index ++ z) (rest_again a.index.now u.new.index a.n le u.auto.index))

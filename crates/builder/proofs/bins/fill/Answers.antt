@@ -56,5 +56,7 @@ loop-i-preserved c =
 pub returns : goal.returns
 returns c =
     let a = c.args in
-    let l = c.loop-i in
-    (lanes_up l.i most_triangles l.boxes l.counts (omega (arith, l.invariant.0, l.invariant.3)) l.invariant.1, ahead_end a.triangles.now a.min a.scale a.index.now l.i l.boxes l.counts c.loop-i-test.false l.invariant.2)
+    let l = c.loop-i in record {
+      lanes = lanes_up l.i most_triangles l.boxes l.counts (omega (arith, l.invariant.0, l.invariant.3)) l.invariant.1;
+      by_index = ahead_end a.triangles.now a.min a.scale a.index.now l.i l.boxes l.counts c.loop-i-test.false l.invariant.2;
+    }

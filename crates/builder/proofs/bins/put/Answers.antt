@@ -10,5 +10,7 @@ pub overflow_add-counts : goal.overflow_add-counts
 overflow_add-counts c = omega (arith, c.requires.1.most c.args.k)
 
 pub returns : goal.returns
-returns c =
-    (union_put (most_triangles + 1) c.args.boxes.now _ c.args.counts.now c.args.k c.args.b _ _ c.requires.0 c.requires.1 c.read-run.ensures c.joined.ensures c.put_box.ensures, refl)
+returns c = record {
+      boxes_after = union_put (most_triangles + 1) c.args.boxes.now _ c.args.counts.now c.args.k c.args.b _ _ c.requires.0 c.requires.1 c.read-run.ensures c.joined.ensures c.put_box.ensures;
+      counts_after = refl;
+    }

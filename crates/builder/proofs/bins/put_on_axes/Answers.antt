@@ -20,7 +20,7 @@ put-requires-2 c =
     let a = c.args in
     let x = c.bin_of-x in
     let p = c.put.ensures in
-    (omega (arith, c.bin_of-y.ensures.1), one_more a.boxes.now _ a.counts.now _ x.result most_triangles a.b x.ensures.1 c.requires (record { boxes_are = p.0; counts_are = p.1 }))
+    (omega (arith, c.bin_of-y.ensures.1), one_more a.boxes.now _ a.counts.now _ x.result most_triangles a.b x.ensures.1 c.requires (record { boxes_are = p.boxes_after; counts_are = p.counts_after }))
 
 pub overflow_add-z : goal.overflow_add-z
 overflow_add-z c = omega (arith, c.bin_of-z.ensures.1)
@@ -32,7 +32,7 @@ put-requires-3 c =
     let p = c.put.ensures in
     let y = c.bin_of-y in
     let q = c.put-2.ensures in
-    (omega (arith, c.bin_of-z.ensures.1), two_more a.boxes.now _ a.counts.now _ x.result most_triangles a.b x.ensures.1 c.requires (record { boxes_are = p.0; counts_are = p.1 }) _ _ y.result y.ensures.1 (record { boxes_are = q.0; counts_are = q.1 }))
+    (omega (arith, c.bin_of-z.ensures.1), two_more a.boxes.now _ a.counts.now _ x.result most_triangles a.b x.ensures.1 c.requires (record { boxes_are = p.boxes_after; counts_are = p.counts_after }) _ _ y.result y.ensures.1 (record { boxes_are = q.boxes_after; counts_are = q.counts_after }))
 
 pub returns : goal.returns
 returns c =
@@ -43,4 +43,4 @@ returns c =
     let q = c.put-2.ensures in
     let z = c.bin_of-z in
     let r = c.put-3.ensures in
-    one_on_axes a.boxes.now _ _ _ a.counts.now _ _ _ x.result y.result z.result most_triangles a.b c.requires x.ensures.1 y.ensures.1 z.ensures.1 (record { boxes_are = p.0; counts_are = p.1 }) (record { boxes_are = q.0; counts_are = q.1 }) (record { boxes_are = r.0; counts_are = r.1 }) a.at x.ensures.0 y.ensures.0 z.ensures.0
+    one_on_axes a.boxes.now _ _ _ a.counts.now _ _ _ x.result y.result z.result most_triangles a.b c.requires x.ensures.1 y.ensures.1 z.ensures.1 (record { boxes_are = p.boxes_after; counts_are = p.counts_after }) (record { boxes_are = q.boxes_after; counts_are = q.counts_after }) (record { boxes_are = r.boxes_after; counts_are = r.counts_after }) a.at x.ensures.0 y.ensures.0 z.ensures.0

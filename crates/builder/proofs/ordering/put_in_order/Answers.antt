@@ -22,16 +22,16 @@ loop-k-init c = let a = c.args in (refl, λ v. refl, heap_none (sorts_before (ce
 
 pub sift-requires : goal.sift-requires
 sift-requires c =
-    let l = c.loop-k in (
-      (omega (arith, l.invariant.0, c.requires), omega (arith, l.invariant.3, c.requires)),
-      subst (λ (z : ℕ). HeapFrom (sorts_before (centroid_at c.args.triangles.now c.args.axis)) z l.index) (sym (one_less l.k c.loop-k-test.true)) l.invariant.2,
-    )
+    let l = c.loop-k in record {
+      index_len_bound = (omega (arith, l.invariant.0, c.requires), omega (arith, l.invariant.3, c.requires));
+      heap_from = subst (λ (z : ℕ). HeapFrom (sorts_before (centroid_at c.args.triangles.now c.args.axis)) z l.index) (sym (one_less l.k c.loop-k-test.true)) l.invariant.2;
+    }
 
 pub loop-k-preserved : goal.loop-k-preserved
 loop-k-preserved c =
     let l = c.loop-k in
     let s = c.sift in
-    (s.auto.1.0 ∙ l.invariant.0, λ v. s.ensures.perm v ∙ l.invariant.1 v, s.ensures.heap_from_2, omega (arith, l.invariant.3))
+    (s.auto.index ∙ l.invariant.0, λ v. s.ensures.perm v ∙ l.invariant.1 v, s.ensures.heap_from_2, omega (arith, l.invariant.3))
 
 pub loop-end-init : goal.loop-end-init
 loop-end-init c =
@@ -56,10 +56,10 @@ sift-requires-in-loop-end c =
     let l = c.loop-end in
     let w = c.swap in
     let len = ap length w.ensures ∙ length_swap l.index 0 (l.end - 1) in
-    let part = length-take-le (l.end - 1 - 0) w.new.0 (omega (arith, l.invariant.0, l.invariant.3, len)) in (
-      (omega (arith, l.invariant.3, l.invariant.0, c.loop-k.invariant.0, c.requires, part), omega arith),
-      lent (sorts_before (centroid_at a.triangles.now a.axis)) (linear_ahead (centroid_at a.triangles.now a.axis)) l.end l.index w.new.0 w.ensures l.invariant.2 c.loop-end-test.true (omega (arith, l.invariant.0, l.invariant.3)),
-    )
+    let part = length-take-le (l.end - 1 - 0) w.new.index (omega (arith, l.invariant.0, l.invariant.3, len)) in record {
+      index_len_bound = (omega (arith, l.invariant.3, l.invariant.0, c.loop-k.invariant.0, c.requires, part), omega arith);
+      heap_from = lent (sorts_before (centroid_at a.triangles.now a.axis)) (linear_ahead (centroid_at a.triangles.now a.axis)) l.end l.index w.new.index w.ensures l.invariant.2 c.loop-end-test.true (omega (arith, l.invariant.0, l.invariant.3));
+    }
 
 pub loop-end-preserved : goal.loop-end-preserved
 loop-end-preserved c =
@@ -67,7 +67,7 @@ loop-end-preserved c =
     let l = c.loop-end in
     let w = c.swap in
     let s = c.sift-in-loop-end in
-    let t = turned (sorts_before (centroid_at a.triangles.now a.axis)) (linear_ahead (centroid_at a.triangles.now a.axis)) l.end l.index w.new.0 w.ensures l.invariant.2 c.loop-end-test.true (omega (arith, l.invariant.0, l.invariant.3)) s.new.1.0 s.auto.1.0 s.ensures.perm s.ensures.heap_from_2 in
+    let t = turned (sorts_before (centroid_at a.triangles.now a.axis)) (linear_ahead (centroid_at a.triangles.now a.axis)) l.end l.index w.new.index w.ensures l.invariant.2 c.loop-end-test.true (omega (arith, l.invariant.0, l.invariant.3)) s.new.index s.auto.index s.ensures.perm s.ensures.heap_from_2 in
     (t.len ∙ l.invariant.0, λ v. t.same v ∙ l.invariant.1 v, t.sifted, omega (arith, l.invariant.3))
 
 pub shape_of-index : goal.shape_of-index

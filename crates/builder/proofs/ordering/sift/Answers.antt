@@ -29,7 +29,7 @@ loop-i-init c =
     let a = c.args in
     let at = centroid_at a.triangles.now a.axis in
     let p = c.requires in
-    (refl, λ v. refl, nearly_start (sorts_before at) (linear_ahead at) a.at a.index.now p.1, p.0.1, c.of-own.ensures.0)
+    (refl, λ v. refl, nearly_start (sorts_before at) (linear_ahead at) a.at a.index.now p.heap_from, p.index_len_bound.1, c.of-own.ensures.0)
 
 pub overflow_mul-i : goal.overflow_mul-i
 overflow_mul-i c = omega (arith, c.loop-i.invariant.3, c.requires.index_len_bound.0)
@@ -67,7 +67,7 @@ loop-i-preserved c =
     let hi : l.i < length l.index = omega (arith, c.loop-i-test.true) in (
       ap length w ∙ length_swap l.index l.i g ∙ l.invariant.0,
       λ v. ap (occ v) w ∙ perm_swap l.index l.i g hi s v ∙ l.invariant.1 v,
-      subst⁻¹ (Nearly (sorts_before at) (linear_ahead at) a.at g) w (nearly_next (sorts_before at) (linear_ahead at) a.at l.i g l.index l.invariant.2 greater (sym (told c.before.before.before.before.before) ∙ c.if-is_ahead.true)),
+      subst⁻¹ (Nearly (sorts_before at) (linear_ahead at) a.at g) w (nearly_next (sorts_before at) (linear_ahead at) a.at l.i g l.index l.invariant.2 greater (sym (told (goal.at.loop-i-preserved c).After-is_ahead) ∙ c.if-is_ahead.true)),
       omega (arith, l.invariant.0),
       l.invariant.4 ∙ sym (ap (λ (xs : List ℕ). get_or xs g 0) w ∙ swap_second l.index l.i g hi s (λ q. omega arith)),
     )
@@ -77,12 +77,16 @@ returns-else-is_ahead c =
     let a = c.args in
     let at = centroid_at a.triangles.now a.axis in
     let l = c.loop-i in
-    let g = c.greater_child-g in
-    (l.invariant.1, nearly_stop (sorts_before at) (linear_ahead at) a.at l.i g.result.place l.index l.invariant.2 g.ensures.greater (sym (told c.before) ∙ c.if-is_ahead.false))
+    let g = c.greater_child-g in record {
+      perm = l.invariant.1;
+      heap_from_2 = nearly_stop (sorts_before at) (linear_ahead at) a.at l.i g.result.place l.index l.invariant.2 g.ensures.greater (sym (told (goal.at.returns-else-is_ahead c).After-is_ahead) ∙ c.if-is_ahead.false);
+    }
 
 pub returns : goal.returns
 returns c =
     let a = c.args in
     let at = centroid_at a.triangles.now a.axis in
-    let l = c.loop-i in
-    (l.invariant.1, nearly_none (sorts_before at) (linear_ahead at) a.at l.i l.index l.invariant.2 c.loop-i-test.false)
+    let l = c.loop-i in record {
+      perm = l.invariant.1;
+      heap_from_2 = nearly_none (sorts_before at) (linear_ahead at) a.at l.i l.index l.invariant.2 c.loop-i-test.false;
+    }

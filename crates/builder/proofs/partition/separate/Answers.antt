@@ -5,33 +5,33 @@ use Rattle.builder.proofs.Growing.{left_all, left_none, left_some, split_even, s
 use Rattle.builder.proofs.partition.separate.Goals as goal
 
 pub put_in_order-requires : goal.put_in_order-requires
-put_in_order-requires c = omega (arith, c.requires, c.partition-left.auto.1.0)
+put_in_order-requires c = omega (arith, c.requires, c.partition-left.auto.index)
 
 pub shape_of-index-then-left-eq0 : goal.shape_of-index-then-left-eq0
-shape_of-index-then-left-eq0 c = c.put_in_order.auto.1.0 ∙ c.partition-left.auto.1.0
+shape_of-index-then-left-eq0 c = c.put_in_order.auto.index ∙ c.partition-left.auto.index
 
 pub returns-then-left-eq0 : goal.returns-then-left-eq0
 returns-then-left-eq0 c =
     let a = c.args in
     let p = c.partition-left in
     let o = c.put_in_order in
-    split_even a.triangles.now a.axis a.position a.index.now p.new.1.0 o.new.1.0 p.result p.ensures (left_none p.result _ c.if-left-eq0.true) o.ensures o.auto.1.0
+    split_even a.triangles.now a.axis a.position a.index.now p.new.index o.new.index p.result p.ensures (left_none p.result _ c.if-left-eq0.true) o.ensures o.auto.index
 
 pub put_in_order-requires-then-left-index : goal.put_in_order-requires-then-left-index
-put_in_order-requires-then-left-index c = omega (arith, c.requires, c.partition-left.auto.1.0)
+put_in_order-requires-then-left-index c = omega (arith, c.requires, c.partition-left.auto.index)
 
 pub shape_of-index-then-left-index : goal.shape_of-index-then-left-index
-shape_of-index-then-left-index c = c.put_in_order-then-left-index.auto.1.0 ∙ c.partition-left.auto.1.0
+shape_of-index-then-left-index c = c.put_in_order-then-left-index.auto.index ∙ c.partition-left.auto.index
 
 pub returns-then-left-index : goal.returns-then-left-index
 returns-then-left-index c =
     let a = c.args in
     let p = c.partition-left in
     let o = c.put_in_order-then-left-index in
-    split_even a.triangles.now a.axis a.position a.index.now p.new.1.0 o.new.1.0 p.result p.ensures (left_all p.result _ c.if-left-eq0.false c.if-left-index.true) o.ensures o.auto.1.0
+    split_even a.triangles.now a.axis a.position a.index.now p.new.index o.new.index p.result p.ensures (left_all p.result _ c.if-left-eq0.false c.if-left-index.true) o.ensures o.auto.index
 
 pub returns : goal.returns
 returns c =
     let a = c.args in
     let p = c.partition-left in
-    split_odd a.triangles.now a.axis a.position a.index.now p.new.1.0 p.result p.ensures (left_some p.result _ c.if-left-eq0.false c.if-left-index.false)
+    split_odd a.triangles.now a.axis a.position a.index.now p.new.index p.result p.ensures (left_some p.result _ c.if-left-eq0.false c.if-left-index.false)

@@ -10,7 +10,10 @@ pub vacate-requires : goal.vacate-requires
 vacate-requires c = ap (λ (z : Float). replicate 288 z) c.infinity-far.ensures
 
 pub fill-requires : goal.fill-requires
-fill-requires c = let p = c.requires in (p.0, (p.1, c.vacate.ensures))
+fill-requires c = let p = c.requires in record {
+      numbered = p.numbered;
+      index_len_bound = (p.index_len_bound, c.vacate.ensures);
+    }
 
 pub try_axes-requires : goal.try_axes-requires
 try_axes-requires c = c.fill.ensures.lanes

@@ -1,9 +1,8 @@
 -- The triangles written so far are the first of the mesh. Assumes nothing.
 use mathlib.Core.Path.{refl, ◌∙◌}
-use Prim.Native.Nat.{◌+◌, ◌*◌, ◌-◌}
+use Prim.Native.Nat.{◌+◌, ◌*◌}
 use borrow.Rule.Slice.PartMut.{mid_len}
 use native.Mathlib.Omega.{arith}
-use lib.ListN.{length}
 use Rattle.stl.proofs.Filling.{mesh_none, mesh_more, mesh_same_length, mesh_whole}
 use Rattle.stl.proofs.reading.fill.Goals as goal
 

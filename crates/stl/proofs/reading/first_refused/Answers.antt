@@ -1,6 +1,5 @@
 -- Those from i on give the lowest of all. Assumes nothing.
 use mathlib.Core.Path.{sym, ◌∙◌}
-use Prim.Native.Nat.{◌-◌}
 use native.Mathlib.Omega.{arith}
 use Rattle.triangle.proofs.Admitting.{refused_start, refused_end}
 use Rattle.stl.specs.Layout.{mesh_in}

@@ -1,7 +1,6 @@
 -- The first i bytes are 0. Assumes nothing.
 use mathlib.Core.Path.{refl}
-use Prim.Native.Nat.{◌-◌}
-use lib.ListN.{length, length-set}
+use lib.ListN.{length-set}
 use Rattle.stl.proofs.Placing.{zeros_more, zeros_whole}
 use borrow.Author.Rules.{rules}
 use Rattle.stl.proofs.writing.clear.Goals as goal

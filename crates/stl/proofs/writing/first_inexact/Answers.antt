@@ -1,6 +1,5 @@
 -- Those from i on give the lowest of all. Assumes nothing.
 use mathlib.Core.Path.{◌≡◌, sym, ap, ◌∙◌}
-use Prim.Native.Nat.{◌-◌}
 use native.Mathlib.Omega.{arith}
 use Rattle.stl.specs.Writing.{exact_triangle}
 use Rattle.stl.proofs.Exact.{inexact_go, inexact_stop, inexact_end, inexact_start}

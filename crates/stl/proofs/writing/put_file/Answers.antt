@@ -10,5 +10,5 @@ pub returns : goal.returns
 returns c =
     let a = c.args in
     let p = c.requires in
-    file_is a.mesh.now a.out.now c.clear.new.0 c.put_word.new.0 c.put_triangles.new.1.0 a.n a.n p.1
+    file_is a.mesh.now a.out.now c.clear.new.out c.put_word.new.out c.put_triangles.new.out a.n a.n p.1
     (c.clear.ensures ∙ ap (λ (k : ℕ). replicate k 0) (mid_is 0 80 (84 + 50 * a.n) a.out.now (omega arith) p.1)) c.put_word.ensures refl c.put_triangles.ensures

@@ -1,9 +1,8 @@
 -- The triangles written so far are the first of the file's. Assumes nothing.
 use mathlib.Core.Path.{refl, sym, ap, ◌∙◌, subst}
-use Prim.Native.Nat.{◌+◌, ◌*◌, ◌-◌}
+use Prim.Native.Nat.{◌+◌, ◌*◌}
 use native.Mathlib.Omega.{arith}
 use lib.Dec.{T}
-use lib.ListN.{length}
 use borrow.Rule.Slice.PartMut.{mid_len}
 use Rattle.triangle.specs.declared.Triangle.{Triangle}
 use Rattle.stl.specs.Layout.{record_of}

@@ -11,13 +11,13 @@ put_number-requires c = (mid_is 0 4 12 c.args.out.now (lit≤ tt) c.requires.0, 
 pub put_number-requires-2 : goal.put_number-requires-2
 put_number-requires-2 c =
     let x = c.put_number in
-    (mid_is 4 8 12 (put_mid 0 4 c.args.out.now x.new.0) (lit≤ tt) (length_v1 c.args.out.now x.new.0 c.requires.0 (number_long _ c.args.a.x x.ensures)), (exact_three c.args.a c.requires.1).1)
+    (mid_is 4 8 12 (put_mid 0 4 c.args.out.now x.new.out) (lit≤ tt) (length_v1 c.args.out.now x.new.out c.requires.0 (number_long _ c.args.a.x x.ensures)), (exact_three c.args.a c.requires.1).1)
 
 pub put_number-requires-3 : goal.put_number-requires-3
 put_number-requires-3 c =
     let x = c.put_number in
     let y = c.put_number-2 in (
-      mid_is 8 12 12 (put_mid 4 4 (put_mid 0 4 c.args.out.now x.new.0) y.new.0) (lit≤ tt) (length_v2 c.args.out.now x.new.0 c.requires.0 (number_long _ c.args.a.x x.ensures) y.new.0 (number_long _ c.args.a.y y.ensures)),
+      mid_is 8 12 12 (put_mid 4 4 (put_mid 0 4 c.args.out.now x.new.out) y.new.out) (lit≤ tt) (length_v2 c.args.out.now x.new.out c.requires.0 (number_long _ c.args.a.x x.ensures) y.new.out (number_long _ c.args.a.y y.ensures)),
       (exact_three c.args.a c.requires.1).2,
     )
 
@@ -26,4 +26,4 @@ returns c =
     let x = c.put_number in
     let y = c.put_number-2 in
     let z = c.put_number-3 in
-    vector_is c.args.out.now x.new.0 y.new.0 z.new.0 c.args.a c.requires.0 x.ensures y.ensures z.ensures
+    vector_is c.args.out.now x.new.out y.new.out z.new.out c.args.a c.requires.0 x.ensures y.ensures z.ensures

@@ -1,0 +1,19 @@
+-- The numbers written so far are the first of the list. Assumes nothing.
+use mathlib.Core.Path.{refl}
+use Prim.Native.Nat.{◌-◌}
+use borrow.Author.Rules.{rules}
+use lib.ListN.{length, length-set}
+use Rattle.builder.proofs.StartLoops.{all_written}
+use Rattle.report.specs.Little.{numbers}
+use Rattle.report.proofs.Reading.{numbers_more}
+use Rattle.report.proofs.number.fill.Goals as goal
+
+pub loop-i-init : goal.loop-i-init
+unfolding numbers
+loop-i-init c = (search rules, refl, refl)
+
+pub loop-i-preserved : goal.loop-i-preserved
+loop-i-preserved c = (search rules, simp length-set c.loop-i.invariant.1, numbers_more _ _ c.loop-i.out c.loop-i.i _ c.loop-i-test.true c.number.ensures c.loop-i.invariant.2)
+
+pub returns : goal.returns
+returns c = all_written (numbers _ _) c.loop-i.out c.loop-i.i _ c.loop-i.invariant.0 c.loop-i-test.false c.loop-i.invariant.1 c.loop-i.invariant.2
