@@ -2,7 +2,7 @@
 use mathlib.Core.Path.{◌≡◌, refl, sym, ap, ◌∙◌, subst⁻¹}
 use mathlib.Core.Logic.{⊎_elim}
 use Prim.Native.Nat.{ℕ, zero, suc, ◌+◌, ◌-◌, ◌≤◌, ◌<◌}
-use native.Mathlib.Nat.{sub-eq-zero_of_le}
+use native.Mathlib.Nat.{sub-zero, sub-eq-zero_of_le}
 use native.Mathlib.Numerals.{add-one}
 use native.Mathlib.Omega.{arith}
 use mathlib.Core.Bool.{Bool, true, false, cond, ◌&&◌}
@@ -56,6 +56,9 @@ module _ (m : List Float) where
   pub inexact_end : (i n : ℕ) → n ≤ i → first_inexact m i (n - i) ≡ i
   unfolding first_inexact
   inexact_end i n h = ap (λ (k : ℕ). first_inexact m i k) (sub-eq-zero_of_le h)
+
+  pub inexact_start : (n : ℕ) → first_inexact m 0 (n - 0) ≡ first_inexact m 0 n
+  inexact_start n = ap (λ (k : ℕ). first_inexact m 0 k) (sub-zero n)
 
   -- ---- it is beyond the last exactly where every triangle is exact
   exact_step : (i k : ℕ) (b : Bool) → b ≡ exact_triangle (triangle_at m i) → i + suc k ≤ first_inexact m i (suc k) → T b × (suc i + k ≤ first_inexact m (suc i) k)

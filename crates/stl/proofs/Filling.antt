@@ -1,6 +1,6 @@
 -- The twelve numbers of a triangle of a file, one after the other, and a mesh that grows by a triangle. Assumes nothing.
-use mathlib.Core.Path.{◌≡◌, refl, ap, ◌∙◌, subst}
-use Prim.Native.Nat.{ℕ, ◌+◌, ◌-◌, ◌*◌, ◌<◌}
+use mathlib.Core.Path.{◌≡◌, refl, sym, ap, ◌∙◌, subst}
+use Prim.Native.Nat.{ℕ, ◌+◌, ◌-◌, ◌*◌, ◌≤◌, ◌<◌}
 use native.Mathlib.Nat.{add_assoc}
 use native.Mathlib.Numerals.{add-one}
 use native.Mathlib.Omega.{arith}
@@ -8,7 +8,7 @@ use mathlib.Core.Bool.{not}
 use mathlib.Core.List.{List, [], ◌∷◌, ◌++◌}
 use lib.Dec.{T}
 use lib.ListN.{length, take, drop_of_length-le}
-use lib.Seq.{sets, sets-eq}
+use lib.Seq.{sets, sets-eq, take_all}
 use borrow.Rule.Slice.PartMut.{put_mid}
 use lib.Ieee.{Float, binary32, nan_bits}
 use Rattle.float.specs.Number.{two, two_to_40}
@@ -103,3 +103,9 @@ module _ (s : List ℕ) (at : ℕ) where
 
     pub mesh_same_length : length (put_mid (12 * i) (12 * i + 12 - 12 * i) out ys) ≡ length out
     mesh_same_length = part_length (12 * i) (12 * i + 12) out ys (omega arith) twelve_long
+
+  pub mesh_whole : (out : List Float) (i n : ℕ) → length out ≡ 12 * n → i ≤ n → n ≤ i → take (12 * i) out ≡ mesh_in s at i → out ≡ mesh_in s at n
+  mesh_whole out i n l h g m = sym (take_all (12 * i) out (omega arith)) ∙ (m ∙ ap (λ (k : ℕ). mesh_in s at k) (same i n h g))
+    where
+      same : (i n : ℕ) → i ≤ n → n ≤ i → i ≡ n
+      same i n h g = omega arith
