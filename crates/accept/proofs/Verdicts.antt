@@ -14,14 +14,14 @@ use Rattle.accept.specs.declared.Verdict.TheVariants.{Accepted}
 use Rattle.accept.specs.Lowest.{lowest}
 use Rattle.accept.specs.Conditions.{nodes, meshed, breaks_1, breaks_2, breaks_3, breaks_5, breaks_6}
 use Rattle.accept.specs.inner.Room.{named, orphan, adrift, uneven}
-use Rattle.accept.specs.Accept.{broken as broken-at, else, lacking, from_2, from_3, from_4, from_5, from_6, judged, ruling, outcome}
+use Rattle.accept.specs.Accept.{broken as broken_at, else, lacking, from_2, from_3, from_4, from_5, from_6, judged, ruling, outcome}
 use Rattle.accept.proofs.Lowest.{agree, nowhere}
 use Rattle.accept.proofs.Family.{orphan_is, climbs_is}
 use Rattle.accept.proofs.Ranges.{cover_is}
 
 -- the verdict of condition k and those after it, where it is looked up by r
 pub record Says (k : ℕ) (q : Breach) (after whole : Verdict) : Type 0 where
-  pub broken : (i : ℕ) → q ≡ At i → broken-at k i ≡ whole
+  pub broken : (i : ℕ) → q ≡ At i → broken_at k i ≡ whole
   pub holds : q ≡ Nowhere → after ≡ whole
 
 says : (k : ℕ) (p q : Breach) (after whole : Verdict) → whole ≡ else k p after → q ≡ p → Says k q after whole

@@ -30,7 +30,7 @@ use Rattle.builder.specs.Tree.{Grown, decision, grow, grown_as, joined, leaf_of}
 use Rattle.builder.proofs.Linear.{linear_ahead}
 use Rattle.builder.proofs.Parting.{parted_at, parted_length}
 use Rattle.builder.proofs.Sorting.{sorted_length}
-use Rattle.builder.proofs.Choosing.{splits_four as not-few}
+use Rattle.builder.proofs.Choosing.{splits_four as not_few}
 
 -- ---- the fallback order
 ordered_length : (m : List Float) (a : ℕ) (xs : List ℕ) → length (ordered m a xs) ≡ length xs
@@ -105,7 +105,7 @@ grow_fork m d f ids a p e = rw (e, grow)
 
 -- a split is of more than four
 pub splits_four : (m : List Float) (ids : List ℕ) (b q : Aabb) (a : ℕ) (p : Float) → best_split m ids b q ≡ Split a p → 4 < length ids
-splits_four m ids b q a p e = let n : (length ids ≤ 4 → ⊥) = not-few m ids b q a p e in omega arith
+splits_four m ids b q a p e = let n : (length ids ≤ 4 → ⊥) = not_few m ids b q a p e in omega arith
 
 pub decides_four : (m : List Float) (ids : List ℕ) (a : ℕ) (p : Float) → decision m ids ≡ Split a p → 4 < length ids
 unfolding decision

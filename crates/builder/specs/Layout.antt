@@ -17,7 +17,7 @@ box_put boxes node b = put 6 boxes node (box_numbers b)
 
 -- Rule C7: its three links
 unfoldable pub link_put : List ℕ → ℕ → ℕ → ℕ → ℕ → List ℕ
-link_put links node left-or-first count kind = put 3 links node (left-or-first ∷ count ∷ kind ∷ [])
+link_put links node left_or_first count kind = put 3 links node (left_or_first ∷ count ∷ kind ∷ [])
 
 -- Rule C6: two numbers for the children, then all that is below the left one, then what is below the right one
 unfoldable pub boxes_of : Tree → ℕ → ℕ → List Float → List Float

@@ -10,7 +10,7 @@ use Rattle.aabb.specs.declared.vector.Ray.{Ray}
 use Rattle.aabb.specs.Vector.{admitted_ray}
 use Rattle.builder.specs.Reply.{served_reply}
 use Rattle.builder.specs.Build.{Outcome, built}
-use Rattle.builder.proofs.Successes.{success, accepted as accepted-lists}
+use Rattle.builder.proofs.Successes.{success, accepted as accepted_lists}
 use Rattle.tree.specs.Lent.{Lent, Labelled, lent}
 use Rattle.lent.specs.Ladder.{triangle_count}
 use Rattle.walk.specs.Answer.{Told}
@@ -77,13 +77,13 @@ module _ (mesh : List Float) (materials index : List ℕ) (boxes : List Float) (
       let w = success mesh index boxes links nodes leaf_count left e refl in
       let t = w.grown.tree in
       subst (λ (k : ℕ). Signed given k leaf_count) (sym w.nodes_are)
-      (subst (λ (l : ℕ). Signed given (size t) l) (sym w.leaves_are) (signed_tree given t (accepted-lists mesh index boxes links nodes leaf_count left w materials) n))
+      (subst (λ (l : ℕ). Signed given (size t) l) (sym w.leaves_are) (signed_tree given t (accepted_lists mesh index boxes links nodes leaf_count left w materials) n))
 
   -- Rule G2, whatever the materials
   pub built_tree : left.answer ≡ served_reply nodes leaf_count → Trusted (handed mesh materials left)
   built_tree e =
       let w = success mesh index boxes links nodes leaf_count left e refl in
-      rw (handed_is e) (record { tree = w.grown.tree; accepted = accepted-lists mesh index boxes links nodes leaf_count left w materials })
+      rw (handed_is e) (record { tree = w.grown.tree; accepted = accepted_lists mesh index boxes links nodes leaf_count left w materials })
 
   pub labelled : left.answer ≡ served_reply nodes leaf_count → length materials ≡ triangle_count mesh → Labelled (handed mesh materials left).mesh
   labelled e n = rw (handed_is e) n

@@ -36,7 +36,7 @@ use Rattle.walk.specs.Walk.{walk}
 use Rattle.triangle.specs.declared.Found.{Found}
 use Rattle.triangle.specs.declared.Found.TheVariants.{At, Nothing}
 use Rattle.accept.specs.declared.Verdict.TheVariants.{Accepted as Fine}
-use Rattle.accept.proofs.accept.Reads as accept-call
+use Rattle.accept.proofs.accept.Reads as accept_call
 use Rattle.trusted.specs.Exactly.{Gives, Trusted}
 use Rattle.trusted.proofs.Exactly.{accept_exactly}
 use Rattle.sky.specs.Sky.{ray_count, placed, place_of, place_at, sky}
@@ -362,7 +362,7 @@ one_tree s i (internal b u v) (internal b' u' v') H K = internal_one (sym H.0.bo
 held_by : (s : Lent) (t : Tree) → Trusted s → Holds s.tree 0 t → (materials : List ℕ) → Accepted (with_materials s materials) t
 held_by s t h H materials = relabelled s t materials (subst (Accepted s) (one_tree s.tree 0 h.tree t h.accepted.walkable.holds H) h.accepted)
 
-pub accepted_agree : Gives accept-call.Post (λ κs x r e. r ≡ Fine → Gives accept-call.Post (λ κs' x' r' e'. r' ≡ Fine → x.0.now ≡ x'.0.now
+pub accepted_agree : Gives accept_call.Post (λ κs x r e. r ≡ Fine → Gives accept_call.Post (λ κs' x' r' e'. r' ≡ Fine → x.0.now ≡ x'.0.now
     → (materials : List ℕ) → length materials ≡ triangle_count x.0.now
     → let l = lists_of x.1.0.now x.1.1.0.now x.1.1.1.0.now in
     let l' = lists_of x'.1.0.now x'.1.1.0.now x'.1.1.1.0.now in

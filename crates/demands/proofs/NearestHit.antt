@@ -30,12 +30,12 @@ use Rattle.triangle.proofs.Spot.{spot_inside}
 use Rattle.walk.specs.declared.tally.Nearest.{Nearest}
 use Rattle.walk.specs.declared.tally.Nearest.TheVariants.{Unmet, Met}
 use Rattle.tree.specs.Lent.{Mesh, Lent, Labelled, material_of}
-use Rattle.walk.specs.Walk.{replaces as Replaces-by, nearer as nearer-by, after, hit_of, over, walk}
+use Rattle.walk.specs.Walk.{replaces as replaces_by, nearer as nearer_by, after, hit_of, over, walk}
 use Rattle.tree.specs.Tree.{Tree, leaf, internal}
 use Rattle.tree.specs.Holds.{Holds}
 use Rattle.tree.specs.Accepted.{Walkable}
 use Rattle.tree.specs.Leaves.{range_of}
-use Rattle.demands.specs.Reached.{reached, nearest as nearest-of}
+use Rattle.demands.specs.Reached.{reached, nearest as nearest_of}
 use Rattle.demands.proofs.Walking.{walked}
 use Rattle.lent.specs.Members.{Every, Some}
 use Rattle.demands.specs.NearestHit.{Admitted, finds, Ahead, NearestAt, NothingAt}
@@ -46,7 +46,7 @@ bare Nothing = Unmet
 bare (At h) = Met h.t h.triangle
 
 abbrev replaces : Found → Hit → Bool
-replaces best h = Replaces-by (bare best) h.triangle h.t
+replaces best h = replaces_by (bare best) h.triangle h.t
 
 unfoldable nearer : Found → Found → Found
 nearer best Nothing = best
@@ -56,7 +56,7 @@ abbrev nearest : Lent → Ray → Found → List ℕ → Found
 nearest s r best [] = best
 nearest s r best (p ∷ ps) = nearest s r (nearer best (finds s r p)) ps
 
-same_replaces : (m : Mesh) (r : Ray) (b : Nearest) (k : ℕ) (t : Float) → replaces (hit_of m r b) (hit_at r (triangle_at m.triangles k) k (material_of m k) t) ≡ Replaces-by b k t
+same_replaces : (m : Mesh) (r : Ray) (b : Nearest) (k : ℕ) (t : Float) → replaces (hit_of m r b) (hit_at r (triangle_at m.triangles k) k (material_of m k) t) ≡ replaces_by b k t
 unfolding hit_of hit_at
 same_replaces m r Unmet k t = refl
 same_replaces m r (Met u j) k t = refl
@@ -65,12 +65,12 @@ same_cond : (m : Mesh) (r : Ray) (q : Bool) (a b : Nearest) → hit_of m r (cond
 same_cond m r true a b = refl
 same_cond m r false a b = refl
 
-same_nearer : (m : Mesh) (r : Ray) (b : Nearest) (k : ℕ) (d : Distance) → hit_of m r (nearer-by b k d) ≡ nearer (hit_of m r b) (found r (triangle_at m.triangles k) k (material_of m k) d)
-unfolding nearer-by nearer found
+same_nearer : (m : Mesh) (r : Ray) (b : Nearest) (k : ℕ) (d : Distance) → hit_of m r (nearer_by b k d) ≡ nearer (hit_of m r b) (found r (triangle_at m.triangles k) k (material_of m k) d)
+unfolding nearer_by nearer found
 same_nearer m r b k None = refl
-same_nearer m r b k (To t) = same_cond m r (Replaces-by b k t) (Met t k) b ∙ rw (same_replaces m r b k t) (unfold hit_of in refl)
+same_nearer m r b k (To t) = same_cond m r (replaces_by b k t) (Met t k) b ∙ rw (same_replaces m r b k t) (unfold hit_of in refl)
 
-same_nearest : (s : Lent) (r : Ray) (ps : List ℕ) (b : Nearest) → hit_of s.mesh r (nearest-of s r b ps) ≡ nearest s r (hit_of s.mesh r b) ps
+same_nearest : (s : Lent) (r : Ray) (ps : List ℕ) (b : Nearest) → hit_of s.mesh r (nearest_of s r b ps) ≡ nearest s r (hit_of s.mesh r b) ps
 unfolding after strike
 same_nearest s r [] b = refl
 same_nearest s r (p ∷ ps) b =
@@ -89,7 +89,7 @@ ahead_trans f g h a b = (
 )
 
 kept_ahead : (b h : Hit) → T (real b.t) → T (real h.t) → replaces (At b) h ≡ false → Ahead b h
-unfolding Replaces-by
+unfolding replaces_by
 kept_ahead b h B H e = go (ltb h.triangle b.triangle) refl e
   where
     go : (q : Bool) → ltb h.triangle b.triangle ≡ q → cond q (le h.t b.t) (lt h.t b.t) ≡ false → Ahead b h
@@ -97,7 +97,7 @@ kept_ahead b h B H e = go (ltb h.triangle b.triangle) refl e
     go false i e = (not_lt→le b.t h.t B H (rw e tt), λ l. ltb-false h.triangle b.triangle i)
 
 replacing_ahead : (b h : Hit) → replaces (At b) h ≡ true → Ahead h b
-unfolding Replaces-by
+unfolding replaces_by
 replacing_ahead b h e = go (ltb h.triangle b.triangle) refl e
   where
     go : (q : Bool) → ltb h.triangle b.triangle ≡ q → cond q (le h.t b.t) (lt h.t b.t) ≡ true → Ahead h b
@@ -171,7 +171,7 @@ module _ (s : Lent) (r : Ray) where
 
   -- a finite t replaces no hit at all
   first_replaces : (x : Hit) → T (finite x.t) → replaces Nothing x ≡ false → ⊥
-  unfolding Replaces-by
+  unfolding replaces_by
   first_replaces x f e = T_not (lt x.t infinity) (rw e tt) (finite_below x.t f)
 
   replacing : (best : Found) (x : Hit) → replaces best x ≡ true → NoWorse x best
@@ -215,7 +215,7 @@ module _ (s : Lent) (r : Ray) where
 
   -- ---- from no hit on
   abbrev pub hit_among : List ℕ → Found
-  hit_among ps = hit_of s.mesh r (nearest-of s r Unmet ps)
+  hit_among ps = hit_of s.mesh r (nearest_of s r Unmet ps)
 
   carried : (ps : List ℕ) → nearest s r Nothing ps ≡ hit_among ps
   unfolding hit_of

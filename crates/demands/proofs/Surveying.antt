@@ -13,7 +13,7 @@ use Rattle.report.specs.declared.input.Input.TheVariants.{Good}
 use Rattle.report.specs.Little.{number, numbers}
 use Rattle.report.specs.Input.{triangles_at, rays_at, measured}
 use Rattle.report.specs.Lines.{built_line}
-use Rattle.report.specs.Survey.{ray_lines, handed as surveyHanded, built_of, report_of, reported, surveyed_as, surveyed}
+use Rattle.report.specs.Survey.{ray_lines, handed as survey_handed, built_of, report_of, reported, surveyed_as, surveyed}
 use Rattle.demands.specs.Handed.{handed_as, handed}
 use Rattle.demands.specs.Demand.{Signed}
 use Rattle.demands.specs.Survey.{SignedSurvey}
@@ -31,15 +31,15 @@ module _ (bytes : List ℕ) (n m : ℕ) (good : measured bytes ≡ Good n m) whe
   counted : triangle_count mesh ≡ n
   counted = ap (λ (k : ℕ). k / 12) (numbers_length bytes triangles_at (n * 12)) ∙ omega arith
 
-  handed_same : (o : Outcome) → o.answer.refusal ≡ none → surveyHanded mesh n o.answer.nodes o ≡ handed mesh (replicate n 0) o
-  unfolding surveyHanded handed handed_as
+  handed_same : (o : Outcome) → o.answer.refusal ≡ none → survey_handed mesh n o.answer.nodes o ≡ handed mesh (replicate n 0) o
+  unfolding survey_handed handed handed_as
   handed_same o e = rw (e, counted)
 
   report_is : surveyed bytes ≡ report_of bytes mesh n m (built_of mesh) (built_of mesh).answer.refusal
   unfolding surveyed surveyed_as reported
   report_is = rw good
 
-  lines : (o : Outcome) (w : Refusal) → w ≡ none → report_of bytes mesh n m o w ≡ built_line o.answer.nodes o.answer.leaves ++ ray_lines bytes (rays_at n) (surveyHanded mesh n o.answer.nodes o) m
+  lines : (o : Outcome) (w : Refusal) → w ≡ none → report_of bytes mesh n m o w ≡ built_line o.answer.nodes o.answer.leaves ++ ray_lines bytes (rays_at n) (survey_handed mesh n o.answer.nodes o) m
   unfolding report_of
   lines o w e = rw e
 

@@ -37,7 +37,7 @@ use Rattle.tree.specs.Leaves.{range_of}
 use Rattle.walk.proofs.VisitEnds.{both_put}
 use Rattle.walk.proofs.OneMesh.{none_pending}
 use Rattle.walk.proofs.LoopInvariant.{one_left}
-use Rattle.walk.proofs.Entering.{entered as walk-entered}
+use Rattle.walk.proofs.Entering.{entered as walk_entered}
 
 -- ---- counts
 range_length : (c p : ℕ) → length (range_of c p) ≡ c
@@ -184,7 +184,7 @@ pub walked : (s : Lent) (t : Tree) (r : Ray) → Walkable s t → Labelled s.mes
 walked s t r A M R =
     let n = node_count s.tree.links in
     let left = n - (1 + 2 * entered r t) in
-    sym (walk-entered s r A.whole A.few M (is_true (admitted_ray r) R) A.fitted)
+    sym (walk_entered s r A.whole A.few M (is_true (admitted_ray r) R) A.fitted)
     ∙ tree_walks s r A.entries A.admitted R t 0 [] n left start A.holds A.nested (omega (arith, A.shallow)) (omega (arith, A.sized, short r t))
     ∙ none_pending s r left (more s r (1 + 2 * entered r t) (reached r t) start)
     ∙ rw (zero-add (1 + 2 * entered r t), zero-add (length (reached r t)))

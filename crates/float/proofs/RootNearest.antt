@@ -207,8 +207,8 @@ module _ (x : Float) (p : T (positive x)) (f : T (fits binary64 x)) where
   value : HasValue (root x) false (at.q * 2 ^ at.h) (2 ^ 1074)
   value = subst (λ (r : Float). HasValue r false (at.q * 2 ^ at.h) (2 ^ 1074)) (sym at.made) (units_val binary64 false at.q at.h (within at.q at.h at.lo at.hi at.small))
 
-  R-is : in_units (root x) ≡ at.q * 2 ^ at.h
-  R-is = units_of (root x) false (at.q * 2 ^ at.h) value
+  R_is : in_units (root x) ≡ at.q * 2 ^ at.h
+  R_is = units_of (root x) false (at.q * 2 ^ at.h) value
 
   pub root_positive : T (positive (root x))
   root_positive = positive_of_value (root x) (at.q * 2 ^ at.h) (2 ^ 1074) value (mul-pos (lt_of_lt_of_le (lit< tt) at.lo) (pow_pos at.h))
@@ -219,21 +219,21 @@ module _ (x : Float) (p : T (positive x)) (f : T (fits binary64 x)) where
     above_zero = root_positive;
     to_lower = λ y n l.
         let v = parts y n in
-        subst (λ (R : ℕ). square (in_units y + R) < 4 * (in_units x * 2 ^ 1074)) (sym R-is)
-        (lower_side (in_units x * 2 ^ 1074) at.M at.q at.h at.close at.whole at.lo at.large (in_units y) v.digits v.exponent v.few (units_of y false (v.digits * 2 ^ v.exponent) v.value) (subst (λ (R : ℕ). in_units y < R) R-is l));
+        subst (λ (R : ℕ). square (in_units y + R) < 4 * (in_units x * 2 ^ 1074)) (sym R_is)
+        (lower_side (in_units x * 2 ^ 1074) at.M at.q at.h at.close at.whole at.lo at.large (in_units y) v.digits v.exponent v.few (units_of y false (v.digits * 2 ^ v.exponent) v.value) (subst (λ (R : ℕ). in_units y < R) R_is l));
     to_higher = λ y n l.
         let v = parts y n in
-        subst (λ (R : ℕ). 4 * (in_units x * 2 ^ 1074) < square (R + in_units y)) (sym R-is)
-        (higher_side (in_units x * 2 ^ 1074) at.M at.q at.h at.close at.whole at.lo at.large (in_units y) v.digits v.exponent v.few (units_of y false (v.digits * 2 ^ v.exponent) v.value) (subst (λ (R : ℕ). R < in_units y) R-is l));
+        subst (λ (R : ℕ). 4 * (in_units x * 2 ^ 1074) < square (R + in_units y)) (sym R_is)
+        (higher_side (in_units x * 2 ^ 1074) at.M at.q at.h at.close at.whole at.lo at.large (in_units y) v.digits v.exponent v.few (units_of y false (v.digits * 2 ^ v.exponent) v.value) (subst (λ (R : ℕ). R < in_units y) R_is l));
   }
 
   -- ---- what the laws of a quotient by the root ask (proofs/RootBounds.antt)
   pub root_value : HasValue (root x) false (in_units (root x)) (2 ^ 1074)
-  root_value = rw R-is value
+  root_value = rw R_is value
 
   -- half of x is at most the square
   pub root_square : in_units x * 2 ^ 1074 ≤ 2 * (in_units (root x) * in_units (root x))
-  root_square = rw (at.whole, R-is) (half_square at.M at.q (2 ^ at.h) at.close (lt_of_lt_of_le (lit< tt) at.lo))
+  root_square = rw (at.whole, R_is) (half_square at.M at.q (2 ^ at.h) at.close (lt_of_lt_of_le (lit< tt) at.lo))
     where
       half_square : (M q P : ℕ) → Near M q → 0 < q → M * (P * P) ≤ 2 * (q * P * (q * P))
       half_square M q P n Q = omega (arith, mul-le-mul_right (P * P) (twice M q n Q))

@@ -1,5 +1,5 @@
 -- A record that is written is read back, every other stays, and records written from the front stand one after the other: one law each, over
--- the width. A list with a record written is its front, the record and its rest (`sets_eq` of the kit). Assumes nothing.
+-- the width. A list with a record written is its front, the record and its rest (`sets-eq` of the kit). Assumes nothing.
 use mathlib.Core.Path.{◌≡◌, refl, sym, ap, ◌∙◌}
 use mathlib.Core.Logic.{◌⊎◌, inl, inr, ⊎_elim}
 use mathlib.Core.List.{List, [], ◌∷◌, ◌++◌, append_assoc, append-nil}

@@ -18,8 +18,8 @@ use Rattle.pigeonmast.proofs.pigeonmast_sky.Reads as sky
 use Rattle.pigeonmast.proofs.pigeonmast_watts.Reads as watts
 use Rattle.pigeonmast.proofs.pigeonmast_share.Reads as share
 use Rattle.pigeonmast.proofs.pigeonmast_accept.Reads as accept
-use Rattle.pigeonmast.proofs.pigeonmast_read_stl.Reads as read-stl
-use Rattle.pigeonmast.proofs.pigeonmast_write_stl.Reads as write-stl
+use Rattle.pigeonmast.proofs.pigeonmast_read_stl.Reads as read_stl
+use Rattle.pigeonmast.proofs.pigeonmast_write_stl.Reads as write_stl
 
 pub abi_fixed : Fixes abi.Post
 abi_fixed = fixed
@@ -63,9 +63,9 @@ pub accept_fixed : FixesAll accept.Post {C = ℕ × List ℕ × List ℕ} (λ κ
 accept_fixed κs x r r' e e' p q = ap (λ (o : Accept). (o.answer, o.work, o.told)) (p ∙ sym q)
 
 -- the triangles, the materials and what is told
-pub read_stl_fixed : FixesAll read-stl.Post {C = ℕ × List Float × List ℕ × List ℕ} (λ κs r e. (r, e.1.0.now, e.1.1.0.now, e.1.1.1.0.now))
+pub read_stl_fixed : FixesAll read_stl.Post {C = ℕ × List Float × List ℕ × List ℕ} (λ κs r e. (r, e.1.0.now, e.1.1.0.now, e.1.1.1.0.now))
 read_stl_fixed κs x r r' e e' p q = ap (λ (o : StlRead). (o.answer, o.triangles, o.materials, o.told)) (p ∙ sym q)
 
 -- the file and what is told
-pub write_stl_fixed : FixesAll write-stl.Post {C = ℕ × List ℕ × List ℕ} (λ κs r e. (r, e.1.0.now, e.1.1.0.now))
+pub write_stl_fixed : FixesAll write_stl.Post {C = ℕ × List ℕ × List ℕ} (λ κs r e. (r, e.1.0.now, e.1.1.0.now))
 write_stl_fixed κs x r r' e e' p q = ap (λ (o : StlWritten). (o.answer, o.file, o.told)) (p ∙ sym q)

@@ -22,7 +22,7 @@ ghost use Rattle.watts.specs.Share.{share as share_of};
 ghost use Rattle.watts.specs.Watts.{watts_refusal, watts as weighed};
 ghost use Rattle.accept.specs.Conditions.{foreign};
 ghost use Rattle.accept.specs.Accept.{ruling, accepted};
-ghost use Rattle.stl.specs.Answers.{told as stlAnswered};
+ghost use Rattle.stl.specs.Answers.{told as stl_answered};
 ghost use Rattle.stl.specs.Reading.{read_stl};
 ghost use Rattle.stl.specs.Writing.{write_stl};
 ghost use Rattle.pigeonmast.specs.Report.{abi, hit_numbers, front_number, side_number, refusal_number, refusal_at, build, build_told, build_report, walk, walked, sky, sky_report, test, slab_report, triangle_report, normals, normals_report, watts, report_numbers, watts_report, share_numbers, accept, accept_told, accept_report, stl_told, stl_read, read_report, stl_written, write_report};
@@ -396,8 +396,8 @@ pub fn pigeonmast_accept(
 
 // What a reading or a writing of STL answered: 0 or the refusal number, with `told` written.
 fn tell_stl(answer: stl::Answer, told: &mut [u64; 1]) -> u32
-    ensures value { result ≡ refusal_number (stlAnswered answer).refusal }
-    ensures told_after { told.new ≡ stl_told (stlAnswered answer) }
+    ensures value { result ≡ refusal_number (stl_answered answer).refusal }
+    ensures told_after { told.new ≡ stl_told (stl_answered answer) }
 {
     match answer {
         stl::Answer::Done(count) => {

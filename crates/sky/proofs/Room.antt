@@ -8,7 +8,7 @@ use lib.Seq.{sets}
 use borrow.Author.Tests.{ltb-false}
 use lib.Ieee.{Float, nan}
 use Rattle.lent.specs.Limits.{most_triangles}
-use Rattle.lent.specs.Ladder.{Refusal, none, numbered, triangle_count, first_failed, answered as answered-by}
+use Rattle.lent.specs.Ladder.{Refusal, none, numbered, triangle_count, first_failed, answered as answered_by}
 use Rattle.lent.specs.Flat.{put, records}
 use Rattle.lent.proofs.Ladder.{ends, goes, serves, judges, judged, agree, agreed, not_below, all_passed, each_passed, apart}
 use Rattle.lent.proofs.Flat.{fill_more, records_length, records_at}
@@ -106,11 +106,11 @@ module _ (s : Lent) (rays : List Float) where
 
   module _ (times : List Float) (told : List ℕ) where
     pub refused_is : (number at : ℕ) → first_failed (sky_checks s.mesh rays times told) ≡ numbered number at → filling (sky_refusal (Refused number at)) times told ≡ sky s rays times told
-    unfolding sky sky_refusal answered-by
+    unfolding sky sky_refusal answered_by
     refused_is number at p = ends (judged (numbered number at) (sym p) refl)
 
     pub served_is : (x : Filling) → first_failed (sky_checks s.mesh rays times told) ≡ none → x ≡ filled s rays (ray_count rays) times told → x ≡ sky s rays times told
-    unfolding sky answered-by
+    unfolding sky answered_by
     served_is x p e = ends (judged none (sym p) e)
 
     pub served : Passed s.mesh rays times told → (sky s rays times told).refusal ≡ none

@@ -13,7 +13,7 @@ ghost use Rattle.std.specs.Prelude.{◌≡◌, ◌*◌, ◌≤◌, length};
 ghost use Rattle.lent.specs.Limits.{most_placements};
 ghost use Rattle.builder.specs.Reply.{reply};
 ghost use Rattle.builder.specs.Build.{outcome as top};
-ghost use Rattle.street.specs.Making.{placement_count, proxies as proxiesOf, outcome, raised, made};
+ghost use Rattle.street.specs.Making.{placement_count, proxies as proxies_of, outcome, raised, made};
 
 use aabb::Aabb;
 use builder::Built;
@@ -78,7 +78,7 @@ fn raise(
     m: usize,
 ) -> Built
     requires { (m * 12 ≤ length proxies.old) × (m ≡ placement_count matrices.now) × (m ≤ most_placements) }
-    ensures { outcome (top (reply result) index.new boxes.new links.new) proxies.new ≡ raised (proxiesOf matrices.now root) proxies.old index.old boxes.old links.old }
+    ensures { outcome (top (reply result) index.new boxes.new links.new) proxies.new ≡ raised (proxies_of matrices.now root) proxies.old index.old boxes.old links.old }
 {
     proxies::write(matrices, root, proxies, m);
     let built = builder::build(&proxies[0..m * 12], index, boxes, links);

@@ -1,6 +1,6 @@
 // A 4 by 4 matrix of four rows, which takes points, directions and normals, and the ray of a placement: `transform_ray` of scene.rs.
 // Every call answers on every f64. Left out: the division by w, which is 1 where the bottom row is 0, 0, 0, 1.
-ghost use Rattle.std.specs.Prelude.{◌≡◌, ◌+◌, ◌≤◌, length as lengthN};
+ghost use Rattle.std.specs.Prelude.{◌≡◌, ◌+◌, ◌≤◌, length as list_length};
 ghost use Rattle.street.specs.Rows.{row_at, matrix_at, small_row, bottom_row, good_matrix, against, through, column_of, point_by, direction_by, normal_by, length_of, cast, local_ray};
 
 use aabb::{Ray, Vec3};
@@ -33,7 +33,7 @@ pub enum Local {
 impl Row {
     // Four numbers of a lent list from place `at` on; a NaN for each place beyond its end.
     fn read(numbers: &[f64], at: usize) -> Row
-        requires { at ≤ lengthN numbers.now + 12 }
+        requires { at ≤ list_length numbers.now + 12 }
         ensures { result ≡ row_at numbers.now at }
     {
         let xyz = Vec3::read(numbers, at);

@@ -8,7 +8,7 @@ use Rattle.accept.specs.declared.Verdict.{Verdict}
 use Rattle.accept.specs.declared.Verdict.TheVariants.{Accepted as Fine}
 use Rattle.accept.specs.Conditions.{foreign}
 use Rattle.accept.specs.Accept.{ruling, Outcome, outcome, accepted}
-use Rattle.accept.proofs.accept.Reads as accept-call
+use Rattle.accept.proofs.accept.Reads as accept_call
 use Rattle.trusted.specs.Meets.{Sound, Roomy, Meets}
 use Rattle.trusted.specs.Exactly.{Gives, Trusted, Exactly}
 use Rattle.trusted.proofs.Growing.{grow}
@@ -35,5 +35,5 @@ module _ (s : Lent) (work : List ℕ) (v : Verdict) (after : List ℕ) (e : outc
     zeroed = λ f. let m = meets f in ap (λ (o : Outcome). o.work) (e ∙ meets_accepted s work m.0 m.1 m.2);
   }
 
-pub accept_exactly : Gives accept-call.Post (λ κs x r e. Exactly (foreign x.0.now x.1.0.now x.1.1.0.now x.1.1.1.0.now) x.1.1.1.1.0.now r e.1.1.1.1.0.now)
+pub accept_exactly : Gives accept_call.Post (λ κs x r e. Exactly (foreign x.0.now x.1.0.now x.1.1.0.now x.1.1.1.0.now) x.1.1.1.1.0.now r e.1.1.1.1.0.now)
 accept_exactly κs x r e p = exactly _ _ r _ p
