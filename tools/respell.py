@@ -2,7 +2,7 @@
 """Brings this repository's own names in antt to today's spelling: words joined by `_`, no humps, no dashes.
 
 usage: python3 tools/respell.py           at the top, once, right after the kit's port.py
-       python3 tools/respell.py --table   prints the table, old and new, and the names that fall together
+       python3 tools/respell.py --table   prints the table, old and new; whole only where it has not run yet
 
 The table is made of what specs/ and proofs/ declare (definitions, lemmas, records' fields, constructors), not of functions' own proof files.
 A name that the library has too keeps its spelling in a file that imports the library's. Functions of src/, strings, inputs and outputs are left alone.
