@@ -11,11 +11,11 @@ use Rattle.float.proofs.Numbers.{nought_is, infinity_is}
 use Rattle.float.proofs.Pick.{lower_is, higher_is, lower_real, higher_real}
 use Rattle.aabb.specs.declared.vector.Ray.{Ray}
 use Rattle.aabb.specs.declared.bounds.Aabb.{Aabb}
-use Rattle.aabb.specs.declared.slab.Span.TheVariants.{Passed, Missed}
+use Rattle.std.specs.Prelude.{None}
 use Rattle.aabb.specs.declared.slab.Sight.{Sight}
 use Rattle.aabb.specs.declared.slab.Aim.{Aim}
 use Rattle.aabb.specs.Vector.{along}
-use Rattle.aabb.specs.Slab.{sighted, aimed, sight_on, reach, first, second, parallel, unless_later, clipped, narrowed, and_then, ahead, on_axis, through_from, through}
+use Rattle.aabb.specs.Slab.{passed, sighted, aimed, sight_on, reach, first, second, parallel, unless_later, clipped, narrowed, and_then, ahead, on_axis, through_from, through}
 
 -- ---- a prepared ray
 pub made : (r : Ray) (x y z : Sight) → x ≡ sighted r.origin.x r.direction.x → y ≡ sighted r.origin.y r.direction.y → z ≡ sighted r.origin.z r.direction.z
@@ -66,21 +66,21 @@ module _ {m : Aim} {b : Aabb} {axis : ℕ} {enter exit : Float} {s : Sight} {min
   one_axis = rw (H.sight, H.low, H.high) (sym (opens m b axis enter exit H.more) ∙ H.so_far.same)
 
   -- it rules the box out, or it does not
-  stop : narrowed s min max enter exit ≡ Missed → Missed ≡ through m b
+  stop : narrowed s min max enter exit ≡ None → None ≡ through m b
   unfolding and_then
   stop p = rw p at one_axis
 
-  next : (later sooner : Float) → T (real later) → T (real sooner) → narrowed s min max enter exit ≡ Passed later sooner → Running m b (axis + 1) later sooner
+  next : (later sooner : Float) → T (real later) → T (real sooner) → narrowed s min max enter exit ≡ passed later sooner → Running m b (axis + 1) later sooner
   unfolding and_then
   next later sooner l r p = record { upto = omega (arith, H.more); enter_real = l; exit_real = r; same = rw p at one_axis }
 
   module _ (flat : s.flat ≡ true) where
-    pub flat_below : lt s.origin min ≡ true → Missed ≡ through m b
+    pub flat_below : lt s.origin min ≡ true → None ≡ through m b
     unfolding narrowed parallel
     flat_below h = stop (rw (flat, h))
 
     module _ (below : lt s.origin min ≡ false) where
-      pub flat_above : lt max s.origin ≡ true → Missed ≡ through m b
+      pub flat_above : lt max s.origin ≡ true → None ≡ through m b
       unfolding narrowed parallel
       flat_above k = stop (rw (flat, below, k))
 
@@ -94,7 +94,7 @@ module _ {m : Aim} {b : Aabb} {axis : ℕ} {enter exit : Float} {s : Sight} {min
     unfolding narrowed clipped
     clips = rw (← p, ← q, l, r, higher_is enter t0 H.so_far.enter_real, lower_is exit t1 H.so_far.exit_real, steep)
 
-    pub ruled_out : lt sooner later ≡ true → Missed ≡ through m b
+    pub ruled_out : lt sooner later ≡ true → None ≡ through m b
     unfolding unless_later
     ruled_out h = stop (clips ∙ rw h)
 

@@ -1,5 +1,6 @@
 -- A ray that passes a box passes every box that contains it: it enters that one no later and leaves it no earlier, axis by axis, since rounding keeps the order.
 -- Assumes nothing.
+use Rattle.std.specs.Prelude.{Option, Some, None}
 use mathlib.Core.Path.{◌≡◌, refl}
 use mathlib.Core.Logic.{inl, inr}
 use mathlib.Core.Bool.{Bool, true, false, not, ◌||◌, cond, or-false}
@@ -20,10 +21,9 @@ use Rattle.float.proofs.Pick.{greater_left, greater_right, greater_least, greate
 use Rattle.aabb.specs.declared.vector.Ray.{Ray}
 use Rattle.aabb.specs.declared.bounds.Aabb.{Aabb}
 use Rattle.aabb.specs.declared.slab.Span.{Span}
-use Rattle.aabb.specs.declared.slab.Span.TheVariants.{Passed, Missed}
 use Rattle.aabb.specs.Vector.{along, all_equal, admitted_ray}
 use Rattle.aabb.specs.Bounds.{bounded, is_empty, usable, contains}
-use Rattle.aabb.specs.Slab.{sighted, aimed, sight_on, reach, first, second, parallel, unless_later, clipped, narrowed, and_then, ahead, on_axis, through_from, through, slab, is_passed, passes}
+use Rattle.aabb.specs.Slab.{passed, sighted, aimed, sight_on, reach, first, second, parallel, unless_later, clipped, narrowed, and_then, ahead, on_axis, through_from, through, slab, is_passed, passes}
 use Rattle.aabb.proofs.Axis.{all_along, within_along, at_most_along}
 
 nought_real : T (le nought nought)
@@ -39,36 +39,31 @@ two_finite : (x : Float) → T (le (magnitude x) two) → T (finite x)
 two_finite x h = below_finite x (fin false 1 (pos 1)) tt (rw two_is at h)
 
 -- the first interval holds the second
-unfoldable pub Wider : Span → Span → Type 0
-Wider Missed Missed = Unit {0}
-Wider (Passed e' x') Missed = Unit {0}
-Wider Missed (Passed e x) = ⊥
-Wider (Passed e' x') (Passed e x) = T (le e' e) × T (le x x')
+unfoldable pub Wider : Option Span → Option Span → Type 0
+Wider s None = Unit {0}
+Wider None (Some a) = ⊥
+Wider (Some b) (Some a) = T (le b.enter a.enter) × T (le a.exit b.exit)
 
-pub wider_passed : (b a : Span) → Wider b a → T (is_passed a) → T (is_passed b)
+pub wider_passed : (b a : Option Span) → Wider b a → T (is_passed a) → T (is_passed b)
 unfolding Wider
-wider_passed Missed Missed w h = h
-wider_passed (Passed e' x') Missed w h = tt
-wider_passed Missed (Passed e x) w h = w
-wider_passed (Passed e' x') (Passed e x) w h = tt
+wider_passed None None w h = h
+wider_passed (Some b) None w h = tt
+wider_passed None (Some a) w h = w
+wider_passed (Some b) (Some a) w h = tt
 
-gate : (t' t : Bool) (e' x' e x : Float) → (T (not t) → T (not t')) → T (le e' e) → T (le x x') → Wider (cond t' Missed (Passed e' x')) (cond t Missed (Passed e x))
+gate : (t' t : Bool) (e' x' e x : Float) → (T (not t) → T (not t')) → T (le e' e) → T (le x x') → Wider (cond t' None (passed e' x')) (cond t None (passed e x))
 unfolding Wider
 gate true true e' x' e x n h k = tt
 gate true false e' x' e x n h k = n tt
 gate false true e' x' e x n h k = tt
 gate false false e' x' e x n h k = (h, k)
 
-and_then_wider : (b a : Span) (k' k : Float → Float → Span) → Wider b a → ((e' x' e x : Float) → T (le e' e) → T (le x x') → Wider (k' e' x') (k e x)) → Wider (and_then b k') (and_then a k)
+and_then_wider : (b a : Option Span) (k' k : Float → Float → Option Span) → Wider b a → ((e' x' e x : Float) → T (le e' e) → T (le x x') → Wider (k' e' x') (k e x)) → Wider (and_then b k') (and_then a k)
 unfolding Wider and_then
-and_then_wider Missed Missed k' k w h = tt
-and_then_wider (Passed e' x') Missed k' k w h = any (k' e' x')
-  where
-    any : (s : Span) → Wider s Missed
-    any Missed = tt
-    any (Passed e x) = tt
-and_then_wider Missed (Passed e x) k' k w h = absurd w
-and_then_wider (Passed e' x') (Passed e x) k' k w h = h e' x' e x w.0 w.1
+and_then_wider None None k' k w h = tt
+and_then_wider (Some b) None k' k w h = tt
+and_then_wider None (Some a) k' k w h = absurd w
+and_then_wider (Some b) (Some a) k' k w h = h b.enter b.exit a.enter a.exit w.0 w.1
 
 -- x < e, and so x' < e', is ruled out for x' and e' that are further apart
 apart : (e' x' e x : Float) → T (le e' e) → T (le x x') → T (not (lt x e)) → T (not (lt x' e'))

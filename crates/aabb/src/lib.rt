@@ -1,5 +1,5 @@
 // Vectors, rays, boxes and the slab test: a port of aabb.rs, with what rules V1 to V5 fix of optics_core's Vec3 and Ray.
-// Every call answers on every f64. `&mut self` of the Rust hands the value back here; `Option` is the enum `Span`.
+// Every call answers on every f64. `&mut self` of the Rust hands the value back here; its pair of times is the struct `Span`.
 #![tactic(auto)]
 
 pub mod vector; // vector.rt: Vec3 and Ray

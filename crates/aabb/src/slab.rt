@@ -6,11 +6,11 @@ ghost use Rattle.aabb.specs.Slab.{sighted, aimed, sight_on, first, second, ahead
 use crate::bounds::Aabb;
 use crate::vector::Ray;
 
-// The times at which a ray enters and leaves a box, or that it misses it.
+// The times at which a ray enters and leaves a box.
 #[derive(Clone, Copy)]
-pub enum Span {
-    Passed { enter: f64, exit: f64 },
-    Missed,
+pub struct Span {
+    pub enter: f64,
+    pub exit: f64,
 }
 
 // One axis of a ray: its origin there, 1/dir, and whether |dir| < 1e-12.
@@ -31,8 +31,8 @@ pub struct Aim {
 }
 
 impl Aabb {
-    // Enter and exit times of the ray through the box, from 0 on, or Missed.
-    pub fn intersect_ray(self, ray: Ray) -> Span
+    // Enter and exit times of the ray through the box, from 0 on, or none where it misses it.
+    pub fn intersect_ray(self, ray: Ray) -> Option<Span>
         ensures { result ≡ slab ray self }
     {
         Aim::of(ray).through(self)
@@ -74,9 +74,9 @@ impl Aim {
         self.z
     }
 
-    // Enter and exit times of the prepared ray through the box, from 0 on, or Missed. The loop over the axes is left at the first that rules it
+    // Enter and exit times of the prepared ray through the box, from 0 on, or none where it misses it. The loop over the axes is left at the first that rules it
     // out. Enter and exit are never a NaN, so one comparison picks the greater and the lesser.
-    pub fn through(self, bounds: Aabb) -> Span
+    pub fn through(self, bounds: Aabb) -> Option<Span>
         ensures { result ≡ through self bounds }
     {
         let mut enter = 0.0;
@@ -91,10 +91,10 @@ impl Aim {
             let max = bounds.max.along(axis);
             if s.flat {
                 if s.origin < min {
-                    break Span::Missed;
+                    break None;
                 }
                 if s.origin > max {
-                    break Span::Missed;
+                    break None;
                 }
             } else {
                 let t0 = (min - s.origin) * s.inv;
@@ -102,7 +102,7 @@ impl Aim {
                 enter = float::higher(enter, first(t0, t1));
                 exit = float::lower(exit, second(t0, t1));
                 if enter > exit {
-                    break Span::Missed;
+                    break None;
                 }
             }
             axis += 1;
@@ -124,11 +124,11 @@ fn second(t0: f64, t1: f64) -> f64
 }
 
 // What lies behind the ray is missed (rule B11).
-fn ahead(enter: f64, exit: f64) -> Span
+fn ahead(enter: f64, exit: f64) -> Option<Span>
     ensures { result ≡ ahead enter exit }
 {
     if exit < 0.0 {
-        return Span::Missed;
+        return None;
     }
-    Span::Passed { enter, exit }
+    Some(Span { enter, exit })
 }

@@ -1,5 +1,7 @@
 pub mod Limits
 pub mod Ladder
+pub mod Lowest
+pub mod Refusals
 pub mod Flat
 pub mod Permutation
 pub mod Members

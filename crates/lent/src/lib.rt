@@ -2,6 +2,10 @@
 // The Rust has none of it: its lists grow, and it never refuses.
 #![tactic(auto)]
 
+mod refusal; // refusal.rt: why a call is refused
+
+pub use refusal::{Reason, Refused};
+
 // n at most.
 pub const MOST_TRIANGLES: usize = 65536;
 

@@ -1,4 +1,5 @@
 -- On admitted data every number of the test of a ray against a triangle is finite: each is bounded by a power of two, step by step. Assumes nothing.
+use Rattle.std.specs.Prelude.{Option, Some, None}
 use mathlib.Core.Path.{◌≡◌, refl}
 use Prim.Native.Nat.{ℕ, ◌+◌, ◌*◌, ◌^◌}
 use native.Mathlib.Omega.{arith}
@@ -18,9 +19,6 @@ use Rattle.aabb.specs.Vector.{along, minus, dot, minor, cross, all_within, admit
 use Rattle.aabb.proofs.Axis.{within_along}
 use Rattle.triangle.specs.declared.Triangle.{Triangle}
 use Rattle.triangle.specs.declared.Hit.{Hit}
-use Rattle.triangle.specs.declared.Found.TheVariants.{At}
-use Rattle.triangle.specs.declared.Distance.{Distance}
-use Rattle.triangle.specs.declared.Distance.TheVariants.{To, None}
 use Rattle.triangle.specs.Mesh.{corners_of, admitted_triangle}
 use Rattle.triangle.specs.Meeting.{edge1, edge2, pvec, det, inv_det, tvec, qvec, u_of, v_of, t_of, judged, distance_to, distance, hit_at, found, strike}
 
@@ -146,26 +144,26 @@ module _ (r : Ray) (a : Triangle) (R : T (admitted_ray r)) (A : T (admitted_tria
     }
 
   -- ---- so the distance of a hit is finite
-  judged_finite : (d u v t s : Float) → (T (not (lt (magnitude d) ten_billionth)) → T (finite t)) → judged d u v t ≡ To s → T (finite s)
+  judged_finite : (d u v t s : Float) → (T (not (lt (magnitude d) ten_billionth)) → T (finite t)) → judged d u v t ≡ Some s → T (finite s)
   unfolding judged
   judged_finite d u v t s f = go (lt (magnitude d) ten_billionth) (not (le nought u && le u one)) (lt v nought || lt one (add binary64 u v)) (le t millionth) f
     where
-      go : (p q w z : Bool) → (T (not p) → T (finite t)) → cond p None (cond q None (cond w None (cond z None (To t)))) ≡ To s → T (finite s)
+      go : (p q w z : Bool) → (T (not p) → T (finite t)) → cond p None (cond q None (cond w None (cond z None (Some t)))) ≡ Some s → T (finite s)
       go true q w z f e = absurd (let z : ◌≡◌ {A = ℕ} 0 1 = cc in omega arith)
       go false true w z f e = absurd (let z : ◌≡◌ {A = ℕ} 0 1 = cc in omega arith)
       go false false true z f e = absurd (let z : ◌≡◌ {A = ℕ} 0 1 = cc in omega arith)
       go false false false true f e = absurd (let z : ◌≡◌ {A = ℕ} 0 1 = cc in omega arith)
       go false false false false f e = let i : t ≡ s = cc in rw i at (f tt)
 
-  pub distance_finite : (s : Float) → distance r a ≡ To s → T (finite s)
+  pub distance_finite : (s : Float) → distance r a ≡ Some s → T (finite s)
   unfolding distance distance_to
   distance_finite s e = judged_finite (det r (corners_of a)) (u_of r (corners_of a)) (v_of r (corners_of a)) (t_of r (corners_of a)) s (λ n. (test_finite n).t_is) e
 
-  found_finite : (k m : ℕ) (d : Distance) (h : Hit) → ((s : Float) → d ≡ To s → T (finite s)) → found r a k m d ≡ At h → T (finite h.t)
+  found_finite : (k m : ℕ) (d : Option Float) (h : Hit) → ((s : Float) → d ≡ Some s → T (finite s)) → found r a k m d ≡ Some h → T (finite h.t)
   unfolding found hit_at
   found_finite k m None h f e = absurd (let z : ◌≡◌ {A = ℕ} 0 1 = cc in omega arith)
-  found_finite k m (To s) h f e = let i : s ≡ h.t = cc in rw i at (f s refl)
+  found_finite k m (Some s) h f e = let i : s ≡ h.t = cc in rw i at (f s refl)
 
-  pub strike_finite : (k m : ℕ) (h : Hit) → strike r a k m ≡ At h → T (finite h.t)
+  pub strike_finite : (k m : ℕ) (h : Hit) → strike r a k m ≡ Some h → T (finite h.t)
   unfolding strike
   strike_finite k m h e = found_finite k m (distance r a) h distance_finite e

@@ -13,7 +13,7 @@ use Rattle.aabb.specs.declared.vector.Vec3.{Vec3}
 use Rattle.aabb.specs.Vector.{vec, divided, dot}
 use Rattle.triangle.specs.Normal.{direction}
 use Rattle.triangle.specs.Refilled.{put, filled, filled_from}
-use Rattle.triangle.proofs.Admitting.{one_more}
+use Rattle.lent.proofs.Lowest.{one_more}
 
 -- ---- the direction, by the squared length
 module _ (a : Vec3) (d : Float) (is : d ≡ dot a a) where

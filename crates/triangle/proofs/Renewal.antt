@@ -1,4 +1,5 @@
 -- What a call that refills normals leaves where it is served (`Renewed`): by the answer, 1, 2 and 5 were passed, and the mesh is the one that is filled. Assumes nothing.
+use Rattle.std.specs.Prelude.{None}
 use mathlib.Core.Path.{◌≡◌, sym, ap, ◌∙◌, subst}
 use Prim.Native.Nat.{ℕ, ◌/◌, ◌%◌, ◌≤◌, ◌<◌}
 use native.Mathlib.Omega.{arith}
@@ -10,7 +11,6 @@ use borrow.Author.Tests.{eqb-true, ltb-false, not-false}
 use Rattle.lent.specs.Limits.{most_triangles}
 use Rattle.lent.specs.Ladder.{none, numbered, triangle_count}
 use Rattle.lent.proofs.Ladder.{ends, goes, agree, not_below, all_passed}
-use Rattle.triangle.specs.declared.Unadmitted.TheVariants.{Nothing}
 use Rattle.triangle.specs.Mesh.{triangle_at, admitted_triangle, first_refused}
 use Rattle.triangle.specs.Refilled.{Outcome, outcome, filled_from, refilled, Renewed}
 use Rattle.triangle.proofs.Admitting.{none_bad, none_unadmitted, none_refused, all_admitted}
@@ -20,7 +20,7 @@ use Rattle.triangle.proofs.Untouched.{length_kept, number_kept, triangle_new, fi
 record Served (m l : List Float) : Type 0 where
   whole : length m % 12 ≡ 0
   few : triangle_count m ≤ most_triangles
-  all_fine : first_refused m 0 (triangle_count m) ≡ Nothing
+  all_fine : first_refused m 0 (triangle_count m) ≡ None
   is : l ≡ filled_from m 0 (triangle_count m)
 
 no_refusal : (number at : ℕ) → numbered number at ≡ none → ⊥
@@ -38,7 +38,7 @@ passed m l e =
       is = sym (ap (λ (o : Outcome). o.mesh) p.1);
     }
 
-module _ (m : List Float) (few : triangle_count m ≤ most_triangles) (whole : length m % 12 ≡ 0) (all_fine : first_refused m 0 (triangle_count m) ≡ Nothing) where
+module _ (m : List Float) (few : triangle_count m ≤ most_triangles) (whole : length m % 12 ≡ 0) (all_fine : first_refused m 0 (triangle_count m) ≡ None) where
   abbrev n : ℕ
   n = triangle_count m
 

@@ -1,5 +1,6 @@
 -- Each way out of the test of a ray against a triangle is what the definition says: the tests that led there decide it, in the file's order. What is worked out of the
 -- vertices alone is the triangle's. Assumes nothing.
+use Rattle.std.specs.Prelude.{Option, Some, None}
 use mathlib.Core.Path.{◌≡◌, refl, ap, ◌∙◌}
 use Prim.Native.Nat.{ℕ, ◌+◌, ◌*◌, ◌≤◌, min}
 use native.Mathlib.Omega.{arith}
@@ -21,8 +22,6 @@ use Rattle.triangle.specs.declared.Triangle.{Triangle}
 use Rattle.triangle.specs.declared.Corners.{Corners}
 use Rattle.triangle.specs.declared.Crossing.{Crossing}
 use Rattle.triangle.specs.declared.Hit.{Hit}
-use Rattle.triangle.specs.declared.Distance.{Distance}
-use Rattle.triangle.specs.declared.Distance.TheVariants.{To, None}
 use Rattle.triangle.specs.Mesh.{triangle_at, corners_of, centroid_of, admitted_triangle}
 use Rattle.triangle.specs.Meeting.{crossing_of, judged, distance_to, faces, hit_at}
 
@@ -56,7 +55,7 @@ module _ (d m u v t : Float) (q : m ≡ magnitude d) where
             unfolding judged
             none_t h = rw (← q, n, low, high, above, inside, h)
 
-            pub to_t : le t millionth ≡ false → To t ≡ judged d u v t
+            pub to_t : le t millionth ≡ false → Some t ≡ judged d u v t
             unfolding judged
             to_t h = rw (← q, n, low, high, above, inside, h)
 
@@ -92,7 +91,7 @@ unfolding judged
 none_first d u v t low all x y h = go (lt (magnitude d) ten_billionth) (le nought u) (le u one) (lt v nought) (lt one (add binary64 u v)) refl refl refl
   where
     go : (a b c e f : Bool) → le nought u ≡ b → lt v nought ≡ e → lt one (add binary64 u v) ≡ f
-        → None ≡ cond a None (cond (not (b && c)) None (cond (e || f) None (cond (le t millionth) None (To t))))
+        → None ≡ cond a None (cond (not (b && c)) None (cond (e || f) None (cond (le t millionth) None (Some t))))
     go true b c e f p q r = refl
     go false false c e f p q r = refl
     go false true false e f p q r = refl
@@ -128,7 +127,7 @@ unfolding centroid_of corners_of
 centroid_corners a c r p e = e ∙ ap (λ (c : Corners). divided (plus (plus c.v0 c.v1) c.v2) three) p
 
 -- the numbers of the test, judged
-pub distance_crossed : (r : Ray) (c : Corners) (x : Crossing) (d : Distance) → x ≡ crossing_of r c → d ≡ judged x.det x.u x.v x.t → d ≡ distance_to r c
+pub distance_crossed : (r : Ray) (c : Corners) (x : Crossing) (d : Option Float) → x ≡ crossing_of r c → d ≡ judged x.det x.u x.v x.t → d ≡ distance_to r c
 unfolding distance_to crossing_of
 distance_crossed r c x d p e = e ∙ ap (λ (x : Crossing). judged x.det x.u x.v x.t) p
 

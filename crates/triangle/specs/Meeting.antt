@@ -1,5 +1,5 @@
 -- A ray against a triangle, by Möller and Trumbore as triangle.rs has it (rules T3 to T5). Definitions only.
-use Rattle.std.specs.Prelude.{ℕ, Bool, not, ◌&&◌, ◌||◌, cond, Float}
+use Rattle.std.specs.Prelude.{ℕ, Bool, not, ◌&&◌, ◌||◌, cond, Float, Option, Some, None}
 use Rattle.std.specs.Float.{binary64}
 use Rattle.std.specs.Float.Ieee.{add, mul, div, lt, le}
 use Rattle.float.specs.Number.{nought, one, millionth, ten_billionth}
@@ -11,10 +11,6 @@ use Rattle.triangle.specs.declared.Triangle.{Triangle}
 use Rattle.triangle.specs.declared.Corners.{Corners}
 use Rattle.triangle.specs.declared.Crossing.{Crossing}
 use Rattle.triangle.specs.declared.Hit.{Hit}
-use Rattle.triangle.specs.declared.Found.{Found}
-use Rattle.triangle.specs.declared.Found.TheVariants.{At, Nothing}
-use Rattle.triangle.specs.declared.Distance.{Distance}
-use Rattle.triangle.specs.declared.Distance.TheVariants.{To, None}
 use Rattle.triangle.specs.Mesh.{corners_of}
 
 -- ---- the numbers of the test, by the file's names
@@ -53,18 +49,18 @@ unfoldable pub crossing_of : Ray → Corners → Crossing
 crossing_of r c = record { det = det r c; u = u_of r c; v = v_of r c; t = t_of r c }
 
 -- Rule T4: four tests in a row, and t where all are stood
-unfoldable pub judged : Float → Float → Float → Float → Distance
+unfoldable pub judged : Float → Float → Float → Float → Option Float
 judged d u v t =
     cond (lt (magnitude d) ten_billionth) None
     (cond (not (le nought u && le u one)) None
     (cond (lt v nought || lt one (add binary64 u v)) None
-    (cond (le t millionth) None (To t))))
+    (cond (le t millionth) None (Some t))))
 
 -- whatever the normal
-unfoldable pub distance_to : Ray → Corners → Distance
+unfoldable pub distance_to : Ray → Corners → Option Float
 distance_to r c = judged (det r c) (u_of r c) (v_of r c) (t_of r c)
 
-unfoldable pub distance : Ray → Triangle → Distance
+unfoldable pub distance : Ray → Triangle → Option Float
 distance r a = distance_to r (corners_of a)
 
 -- Rule T5: the front is what the ray meets against the normal
@@ -75,10 +71,10 @@ faces r a = lt (dot r.direction a.normal) nought
 unfoldable pub hit_at : Ray → Triangle → ℕ → ℕ → Float → Hit
 hit_at r a k m t = record { t = t; point = point_at r t; normal = cond (faces r a) a.normal (negated a.normal); u = u_of r (corners_of a); v = v_of r (corners_of a); front = faces r a; triangle = k; material = m }
 
-unfoldable pub found : Ray → Triangle → ℕ → ℕ → Distance → Found
-found r a k m None = Nothing
-found r a k m (To t) = At (hit_at r a k m t)
+unfoldable pub found : Ray → Triangle → ℕ → ℕ → Option Float → Option Hit
+found r a k m None = None
+found r a k m (Some t) = Some (hit_at r a k m t)
 
 -- Rules T4 and T5: what ray r finds of the triangle a, of number k and material m
-unfoldable pub strike : Ray → Triangle → ℕ → ℕ → Found
+unfoldable pub strike : Ray → Triangle → ℕ → ℕ → Option Hit
 strike r a k m = found r a k m (distance r a)

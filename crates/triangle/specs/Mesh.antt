@@ -1,6 +1,7 @@
 -- Triangles, and the mesh that holds them (rules D1, N2, T1, T2). Definitions only.
-use Rattle.std.specs.Prelude.{ℕ, zero, suc, ◌+◌, ◌*◌, Bool, true, false, ◌&&◌, List, [], ◌∷◌, Float}
+use Rattle.std.specs.Prelude.{ℕ, ◌+◌, ◌*◌, Bool, true, false, not, ◌&&◌, List, [], ◌∷◌, Float, Option, Some, None}
 use Rattle.lent.specs.Ladder.{Check, check}
+use Rattle.lent.specs.Lowest.{lowest}
 use Rattle.float.specs.Number.{two, three, two_to_40}
 use Rattle.aabb.specs.declared.vector.Vec3.{Vec3}
 use Rattle.aabb.specs.declared.bounds.Aabb.{Aabb}
@@ -8,8 +9,6 @@ use Rattle.aabb.specs.Vector.{plus, divided, along, all_within, vector_at}
 use Rattle.aabb.specs.Bounds.{of_three}
 use Rattle.triangle.specs.declared.Triangle.{Triangle}
 use Rattle.triangle.specs.declared.Corners.{Corners}
-use Rattle.triangle.specs.declared.Unadmitted.{Unadmitted}
-use Rattle.triangle.specs.declared.Unadmitted.TheVariants.{At, Nothing}
 
 -- Rule D1: triangle i of a mesh, twelve numbers each
 unfoldable pub triangle_at : List Float → ℕ → Triangle
@@ -44,11 +43,13 @@ unfoldable pub centroid_at : List Float → ℕ → ℕ → Float
 centroid_at mesh axis i = along axis (centroid_of (triangle_at mesh i))
 
 -- Refusal 5: the lowest of k triangle numbers from i on whose triangle isn't admitted
-unfoldable pub first_refused : List Float → ℕ → ℕ → Unadmitted
-first_refused mesh i zero = Nothing
-first_refused mesh i (suc k) = elim (admitted_triangle (triangle_at mesh i)) [ true ↦ first_refused mesh (suc i) k | false ↦ At i ]
+abbrev pub refused_at : List Float → ℕ → Bool
+refused_at mesh i = not (admitted_triangle (triangle_at mesh i))
+
+unfoldable pub first_refused : List Float → ℕ → ℕ → Option ℕ
+first_refused mesh i k = lowest (refused_at mesh) i k
 
 -- check 5, with the lowest number
-unfoldable pub unadmitted : Unadmitted → Check
-unadmitted (At i) = check true 5 i
-unadmitted Nothing = check false 5 0
+unfoldable pub unadmitted : Option ℕ → Check
+unadmitted (Some i) = check true 5 i
+unadmitted None = check false 5 0

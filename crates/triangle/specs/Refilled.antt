@@ -3,15 +3,8 @@ use Rattle.std.specs.Prelude.{◌≡◌, ℕ, zero, suc, ◌+◌, ◌*◌, ◌%�
 use Rattle.lent.specs.Ladder.{Refusal, none, numbered, unless, triangle_count, ragged, crowded}
 use Rattle.aabb.specs.declared.vector.Vec3.{Vec3}
 use Rattle.aabb.specs.Vector.{number_at}
-use Rattle.triangle.specs.declared.normals.Refill.{Refill}
-use Rattle.triangle.specs.declared.normals.Refill.TheVariants.{Done, Refused}
 use Rattle.triangle.specs.Mesh.{triangle_at, admitted_triangle, first_refused, unadmitted}
 use Rattle.triangle.specs.Normal.{normal_of, new_triangle}
-
--- the call's answer: the normals are refilled, or the refusal (rule T7)
-unfoldable pub refill_refusal : Refill → Refusal
-refill_refusal Done = none
-refill_refusal (Refused number at) = numbered number at
 
 -- the refusal if there is one, and what the mesh holds at the end
 pub record Outcome : Type 0 where

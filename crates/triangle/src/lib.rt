@@ -12,7 +12,7 @@ ghost use Rattle.triangle.specs.Mesh.{triangle_at, corners_of, bounds_of, centro
 ghost use Rattle.triangle.specs.Meeting.{crossing_of, judged, distance_to, distance, hit_at, strike};
 
 use aabb::{Aabb, Ray, Vec3};
-pub use normals::{Refill, refill_normals};
+pub use normals::refill_normals;
 
 #[derive(Clone, Copy)]
 pub struct Triangle {
@@ -44,13 +44,6 @@ pub struct Hit {
     pub material: u32,
 }
 
-// What a ray finds of a triangle.
-#[derive(Clone, Copy)]
-pub enum Found {
-    At(Hit),
-    Nothing,
-}
-
 // The numbers of the test, by the Rust's names, worked out straight through.
 #[derive(Clone, Copy)]
 pub struct Crossing {
@@ -58,20 +51,6 @@ pub struct Crossing {
     pub u: f64,
     pub v: f64,
     pub t: f64,
-}
-
-// How far along the ray it meets the triangle, if it does.
-#[derive(Clone, Copy)]
-pub enum Distance {
-    To(f64),
-    None,
-}
-
-// The lowest number of a triangle of a mesh that isn't admitted, if there is one.
-#[derive(Clone, Copy)]
-pub enum Unadmitted {
-    At(usize),
-    Nothing,
 }
 
 impl Triangle {
@@ -136,7 +115,7 @@ impl Triangle {
     }
 
     // How far along the ray the triangle is met, without the hit.
-    pub fn distance(self, ray: Ray) -> Distance
+    pub fn distance(self, ray: Ray) -> Option<f64>
         ensures { result ≡ distance ray self }
     {
         self.corners().distance(ray)
@@ -175,13 +154,11 @@ impl Triangle {
     }
 
     // What the ray finds of the triangle, whose number and material are given.
-    pub fn intersect(self, ray: Ray, number: u32, material: u32) -> Found
+    pub fn intersect(self, ray: Ray, number: u32, material: u32) -> Option<Hit>
         ensures { result ≡ strike ray self number material }
     {
-        match self.distance(ray) {
-            Distance::None => Found::Nothing,
-            Distance::To(t) => Found::At(self.hit(ray, t, number, material)),
-        }
+        let t = self.distance(ray)?;
+        Some(self.hit(ray, t, number, material))
     }
 }
 
@@ -225,7 +202,7 @@ impl Corners {
     }
 
     // How far along the ray the triangle is met, whatever its normal.
-    pub fn distance(self, ray: Ray) -> Distance
+    pub fn distance(self, ray: Ray) -> Option<f64>
         ensures { result ≡ distance_to ray self }
     {
         self.crossing(ray).distance()
@@ -235,33 +212,33 @@ impl Corners {
 impl Crossing {
     // How far along the ray the triangle is met: the Rust's tests. Most triangles are missed by u or v, and a processor can't foretell by which of
     // four tests; so one that fails only where one of those does comes first, and few are left for them.
-    pub fn distance(self) -> Distance
+    pub fn distance(self) -> Option<f64>
         ensures { result ≡ judged self.det self.u self.v self.t }
     {
         let both = self.u + self.v;
         let least = float::lower(float::lower(self.u, self.v), 1.0 - both);
         if !(0.0 <= least) {
-            return Distance::None;
+            return None;
         }
         if float::magnitude(self.det) < 1e-10 {
-            return Distance::None;
+            return None;
         }
         if !(0.0 <= self.u) {
-            return Distance::None;
+            return None;
         }
         if !(self.u <= 1.0) {
-            return Distance::None;
+            return None;
         }
         if self.v < 0.0 {
-            return Distance::None;
+            return None;
         }
         if both > 1.0 {
-            return Distance::None;
+            return None;
         }
         if self.t <= 1e-6 {
-            return Distance::None;
+            return None;
         }
-        Distance::To(self.t)
+        Some(self.t)
     }
 }
 
@@ -282,18 +259,10 @@ pub fn admitted_at(mesh: &[f64], i: usize) -> bool
 }
 
 // The lowest number, below n, of a triangle that isn't admitted.
-pub fn first_refused(mesh: &[f64], n: usize) -> Unadmitted
+pub fn first_refused(mesh: &[f64], n: usize) -> Option<usize>
     ensures { result ≡ first_refused mesh.now 0 n }
 {
-    let mut i: usize = 0;
-    while i < n {
-        if admitted_at(mesh, i) {
-            i += 1;
-        } else {
-            return Unadmitted::At(i);
-        }
-    }
-    Unadmitted::Nothing
+    (0..n).find(|i| !admitted_at(mesh, *i))
 }
 
 // Three numbers of a mesh that are there: one test of a triangle's place does for all twelve.

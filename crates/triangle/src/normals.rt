@@ -2,17 +2,12 @@
 // it for every triangle of a mesh, which the Rust has not.
 ghost use Rattle.std.specs.Prelude.{◌≡◌, ◌+◌, ◌*◌, ◌/◌, ◌≤◌, length};
 ghost use Rattle.triangle.specs.Normal.{direction, normal_of, new_triangle};
-ghost use Rattle.triangle.specs.Refilled.{refill_refusal, outcome, put, filled, filled_from, refilled};
+ghost use Rattle.lent.specs.Refusals.{refusal_of};
+ghost use Rattle.triangle.specs.Refilled.{outcome, put, filled, filled_from, refilled};
 
-use crate::{Corners, Triangle, Unadmitted};
+use crate::{Corners, Triangle};
 use aabb::Vec3;
-
-// What a call answers: the normals are refilled, or a refusal's number and its `at`.
-#[derive(Clone, Copy)]
-pub enum Refill {
-    Done,
-    Refused { number: u32, at: usize },
-}
+use lent::{Reason, Refused};
 
 impl Triangle {
     // The triangle with these corners. Its normal is the cross product of the edges from v0, divided by its length, or (0, 1, 0) where the squared
@@ -51,32 +46,37 @@ fn direction(cross: Vec3) -> Vec3
 
 // Refills every normal of a mesh, twelve numbers a triangle, from the corners (rule T7); no other number changes. Refused, in this order, and then nothing
 // is written: 1 the numbers are not in twelves; 2 more than 65,536 triangles (at: how many); 5 a triangle isn't admitted (at: the lowest number).
-pub fn refill_normals(mesh: &mut [f64]) -> Refill
-    ensures { outcome (refill_refusal result) mesh.new ≡ refilled mesh.old }
+pub fn refill_normals(mesh: &mut [f64]) -> Result<(), Refused>
+    ensures { outcome (refusal_of result) mesh.new ≡ refilled mesh.old }
 {
     if mesh.len() % 12 != 0 {
-        return Refill::Refused { number: 1, at: 0 };
+        return Err(Refused {
+            reason: Reason::Ragged,
+            at: 0,
+        });
     }
     let n = mesh.len() / 12;
     if lent::MOST_TRIANGLES < n {
-        return Refill::Refused { number: 2, at: n };
+        return Err(Refused {
+            reason: Reason::Crowded,
+            at: n,
+        });
     }
-    let bad = crate::first_refused(mesh, n);
-    if let Unadmitted::At(i) = bad {
-        return Refill::Refused { number: 5, at: i };
+    if let Some(at) = crate::first_refused(mesh, n) {
+        return Err(Refused {
+            reason: Reason::BadTriangle,
+            at,
+        });
     }
     fill(mesh);
-    Refill::Done
+    Ok(())
 }
 
 fn fill(mesh: &mut [f64])
     ensures { mesh.new ≡ filled_from mesh.old 0 (length mesh.old / 12) }
 {
-    let n = mesh.len() / 12;
-    let mut i: usize = 0;
-    while i < n {
+    for i in 0..mesh.len() / 12 {
         fill_one(mesh, i);
-        i += 1;
     }
 }
 

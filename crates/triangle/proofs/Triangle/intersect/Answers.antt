@@ -3,10 +3,10 @@ use mathlib.Core.Path.{sym, ◌∙◌}
 use Rattle.triangle.specs.Meeting.{strike, found}
 use Rattle.triangle.proofs.Triangle.intersect.Goals as goal
 
-pub returns-in-None : goal.returns-in-None
+pub returns-in_err-t : goal.returns-in_err-t
 unfolding strike found
-returns-in-None c = rw (sym c.distance.ensures ∙ c.in-None.is)
+returns-in_err-t c = rw (c.from_residual.ensures, sym c.distance.ensures ∙ c.in_err-t.was)
 
-pub returns-in-To : goal.returns-in-To
+pub returns : goal.returns
 unfolding strike found
-returns-in-To c = rw (sym c.distance.ensures ∙ c.in-To.is, c.hit.ensures)
+returns c = rw (sym c.distance.ensures ∙ c.in_ok-t.was, c.hit.ensures)
