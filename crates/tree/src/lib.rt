@@ -1,10 +1,13 @@
 // A node of the lent lists, as a walk and a check of strangers' trees read it: `BvhNode` of builder.rs, by six f64 of box and three u32 of links.
 #![tactic(auto)]
 
+mod lists; // lists.rt: what a caller lends
+
 ghost use Rattle.std.specs.Prelude.{◌≡◌, get_or};
 ghost use Rattle.tree.specs.Node.{linked, node_at, sound, left_of, right_of, misfit};
 
 use aabb::Aabb;
+pub use lists::{Lent, Lists, Mesh};
 
 #[derive(Clone, Copy)]
 pub struct Node {
@@ -69,19 +72,11 @@ impl Node {
     }
 
     // Whether a walk can use it (rule N5): a leaf, or an internal node without a count, with a usable box.
+    #[tactic(auto, unfolding(crate::specs::Node::sound))]
     pub fn sound(self) -> bool
         ensures { result ≡ sound self }
     {
-        if !self.bounds.usable() {
-            return false;
-        }
-        if self.kind == 1 {
-            return true;
-        }
-        if self.kind != 0 {
-            return false;
-        }
-        self.count == 0
+        self.bounds.usable() && (self.kind == 1 || self.kind == 0 && self.count == 0)
     }
 
     // The children of an internal node, whose number is i.
@@ -99,18 +94,10 @@ impl Node {
 }
 
 // Refusal 8: no links, links that are not in threes, more nodes than a tree may have, or another number of boxes than of nodes.
+#[tactic(auto, unfolding(crate::specs::Node::misfit))]
 pub fn misfit(boxes: &[f64], links: &[u32]) -> bool
     ensures { result ≡ misfit boxes.now links.now }
 {
     let n = links.len();
-    if n == 0 {
-        return true;
-    }
-    if n % 3 != 0 {
-        return true;
-    }
-    if lent::MOST_NODES < n / 3 {
-        return true;
-    }
-    boxes.len() != 2 * n
+    n == 0 || n % 3 != 0 || lent::MOST_NODES < n / 3 || boxes.len() != 2 * n
 }
