@@ -22,10 +22,11 @@ impl Aabb {
     pub const MAX_LEAF_PRIMITIVES: usize = 4;
 
     // The empty box (rule B1), from which a box grows: each min is +inf, each max -inf.
+    #[tactic(auto, unfolding(crate::specs::Bounds::empty_box))]
     pub fn empty() -> Self
         ensures { result ≡ empty_box }
     {
-        let i = float::infinity();
+        let i = f64::INFINITY;
         Self {
             min: Vec3 { x: i, y: i, z: i },
             max: Vec3 {
@@ -95,17 +96,12 @@ impl Aabb {
     }
 
     // Twice the sum of the three faces, or 0 where an extent is negative (rule B6).
+    #[tactic(auto, unfolding(crate::specs::Bounds::area, crate::specs::Bounds::area_of))]
     pub fn surface_area(self) -> f64
         ensures { result ≡ area self }
     {
         let d = self.extent();
-        if d.x < 0.0 {
-            return 0.0;
-        }
-        if d.y < 0.0 {
-            return 0.0;
-        }
-        if d.z < 0.0 {
+        if d.x < 0.0 || d.y < 0.0 || d.z < 0.0 {
             return 0.0;
         }
         2.0 * ((d.x * d.y + d.y * d.z) + d.z * d.x)
@@ -127,44 +123,35 @@ impl Aabb {
     }
 
     // Whether it is exactly the empty box.
+    #[tactic(auto, unfolding(crate::specs::Bounds::is_empty))]
     pub fn is_empty(self) -> bool
         ensures { result ≡ is_empty self }
     {
-        let i = float::infinity();
-        if self.min.all_equal(i) {
-            return self.max.all_equal(-i);
-        }
-        false
+        self.min.all_equal(f64::INFINITY) && self.max.all_equal(-f64::INFINITY)
     }
 
     // Whether a walk can use it: bounded, or exactly the empty box.
+    #[tactic(auto, unfolding(crate::specs::Bounds::usable))]
     pub fn usable(self) -> bool
         ensures { result ≡ usable self }
     {
-        if self.bounded() {
-            return true;
-        }
-        self.is_empty()
+        self.bounded() || self.is_empty()
     }
 
     // Whether it numerically contains the other box (rule B7).
+    #[tactic(auto, unfolding(crate::specs::Bounds::contains))]
     pub fn contains(self, other: Aabb) -> bool
         ensures { result ≡ contains self other }
     {
-        if self.min.at_most(other.min) {
-            return other.max.at_most(self.max);
-        }
-        false
+        self.min.at_most(other.min) && other.max.at_most(self.max)
     }
 
     // Whether it numerically holds the point (rule B7).
+    #[tactic(auto, unfolding(crate::specs::Bounds::holds))]
     pub fn holds(self, point: Vec3) -> bool
         ensures { result ≡ holds self point }
     {
-        if self.min.at_most(point) {
-            return point.at_most(self.max);
-        }
-        false
+        self.min.at_most(point) && point.at_most(self.max)
     }
 
     // Box i of a lent slice, six numbers each: min x, y, z, max x, y, z; a NaN for each place beyond its end. One test does for a box that is all there.

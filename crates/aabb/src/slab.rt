@@ -80,7 +80,7 @@ impl Aim {
         ensures { result ≡ through self bounds }
     {
         let mut enter = 0.0;
-        let mut exit = float::infinity();
+        let mut exit = f64::INFINITY;
         let mut axis: usize = 0;
         loop {
             if axis == 3 {
@@ -90,10 +90,7 @@ impl Aim {
             let min = bounds.min.along(axis);
             let max = bounds.max.along(axis);
             if s.flat {
-                if s.origin < min {
-                    break None;
-                }
-                if s.origin > max {
+                if s.origin < min || s.origin > max {
                     break None;
                 }
             } else {

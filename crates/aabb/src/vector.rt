@@ -10,59 +10,68 @@ pub struct Vec3 {
 }
 
 impl Vec3 {
+    // f of each component.
+    fn each<F: Fn(f64) -> f64>(self, f: F) -> Vec3
+        requires { F.IsAlwaysCallable f }
+        ensures { F.post f self.x result.x × F.post f self.y result.y × F.post f self.z result.z }
+    {
+        Vec3 {
+            x: f(self.x),
+            y: f(self.y),
+            z: f(self.z),
+        }
+    }
+
+    // f of each component and the other's.
+    fn pairwise<F: Fn(f64, f64) -> f64>(self, other: Vec3, f: F) -> Vec3
+        requires { F.IsAlwaysCallable f }
+        ensures { F.post f self.x other.x result.x × F.post f self.y other.y result.y × F.post f self.z other.z result.z }
+    {
+        Vec3 {
+            x: f(self.x, other.x),
+            y: f(self.y, other.y),
+            z: f(self.z, other.z),
+        }
+    }
+
     // The sum, by component.
+    #[tactic(auto, unfolding(crate::specs::Vector::plus))]
     pub fn plus(self, other: Vec3) -> Vec3
         ensures { result ≡ plus self other }
     {
-        Vec3 {
-            x: self.x + other.x,
-            y: self.y + other.y,
-            z: self.z + other.z,
-        }
+        self.pairwise(other, |a, b| a + b)
     }
 
     // The difference, by component.
+    #[tactic(auto, unfolding(crate::specs::Vector::minus))]
     pub fn minus(self, other: Vec3) -> Vec3
         ensures { result ≡ minus self other }
     {
-        Vec3 {
-            x: self.x - other.x,
-            y: self.y - other.y,
-            z: self.z - other.z,
-        }
+        self.pairwise(other, |a, b| a - b)
     }
 
     // Each component with its sign turned.
+    #[tactic(auto, unfolding(crate::specs::Vector::negated))]
     pub fn negated(self) -> Vec3
         ensures { result ≡ negated self }
     {
-        Vec3 {
-            x: -self.x,
-            y: -self.y,
-            z: -self.z,
-        }
+        self.each(|a| -a)
     }
 
     // Each component times k.
+    #[tactic(auto, unfolding(crate::specs::Vector::scaled))]
     pub fn scaled(self, k: f64) -> Vec3
         ensures { result ≡ scaled self k }
     {
-        Vec3 {
-            x: self.x * k,
-            y: self.y * k,
-            z: self.z * k,
-        }
+        self.each(|a| a * k)
     }
 
     // Each component divided by k.
+    #[tactic(auto, unfolding(crate::specs::Vector::divided))]
     pub fn divided(self, k: f64) -> Vec3
         ensures { result ≡ divided self k }
     {
-        Vec3 {
-            x: self.x / k,
-            y: self.y / k,
-            z: self.z / k,
-        }
+        self.each(|a| a / k)
     }
 
     // (x·x' + y·y') + z·z'
@@ -84,45 +93,35 @@ impl Vec3 {
     }
 
     // The lesser numbers, by component; `self` is the running one.
+    #[tactic(auto, unfolding(crate::specs::Vector::least))]
     pub fn least(self, other: Vec3) -> Vec3
         ensures { result ≡ least self other }
     {
-        let x = float::lesser(self.x, other.x);
-        let y = float::lesser(self.y, other.y);
-        let z = float::lesser(self.z, other.z);
-        Vec3 { x, y, z }
+        self.pairwise(other, |a, b| float::lesser(a, b))
     }
 
     // The greater numbers, by component; `self` is the running one.
+    #[tactic(auto, unfolding(crate::specs::Vector::greatest))]
     pub fn greatest(self, other: Vec3) -> Vec3
         ensures { result ≡ greatest self other }
     {
-        let x = float::greater(self.x, other.x);
-        let y = float::greater(self.y, other.y);
-        let z = float::greater(self.z, other.z);
-        Vec3 { x, y, z }
+        self.pairwise(other, |a, b| float::greater(a, b))
     }
 
     // The lesser numbers by one comparison each: as `least` where no number of `self`, the running one, is a NaN; a NaN there is kept.
+    #[tactic(auto, unfolding(crate::specs::Vector::lowest))]
     pub fn lowest(self, other: Vec3) -> Vec3
         ensures { result ≡ lowest self other }
     {
-        Vec3 {
-            x: float::lower(self.x, other.x),
-            y: float::lower(self.y, other.y),
-            z: float::lower(self.z, other.z),
-        }
+        self.pairwise(other, |a, b| float::lower(a, b))
     }
 
     // The greater numbers, likewise: as `greatest`.
+    #[tactic(auto, unfolding(crate::specs::Vector::highest))]
     pub fn highest(self, other: Vec3) -> Vec3
         ensures { result ≡ highest self other }
     {
-        Vec3 {
-            x: float::higher(self.x, other.x),
-            y: float::higher(self.y, other.y),
-            z: float::higher(self.z, other.z),
-        }
+        self.pairwise(other, |a, b| float::higher(a, b))
     }
 
     // The component on an axis: x at 0, y at 1, z at 2 and beyond.
@@ -139,42 +138,27 @@ impl Vec3 {
     }
 
     // Whether each component is a number of magnitude at most the limit.
+    #[tactic(auto, unfolding(crate::specs::Vector::all_within))]
     pub fn within(self, limit: f64) -> bool
         ensures { result ≡ all_within limit self }
     {
-        if limited(self.x, limit) {
-            if limited(self.y, limit) {
-                return limited(self.z, limit);
-            }
-            return false;
-        }
-        false
+        limited(self.x, limit) && limited(self.y, limit) && limited(self.z, limit)
     }
 
     // Whether each component is at most the other's.
+    #[tactic(auto, unfolding(crate::specs::Vector::all_at_most))]
     pub fn at_most(self, other: Vec3) -> bool
         ensures { result ≡ all_at_most self other }
     {
-        if self.x <= other.x {
-            if self.y <= other.y {
-                return self.z <= other.z;
-            }
-            return false;
-        }
-        false
+        self.x <= other.x && self.y <= other.y && self.z <= other.z
     }
 
     // Whether each component numerically equals k.
+    #[tactic(auto, unfolding(crate::specs::Vector::all_equal))]
     pub fn all_equal(self, k: f64) -> bool
         ensures { result ≡ all_equal k self }
     {
-        if self.x == k {
-            if self.y == k {
-                return self.z == k;
-            }
-            return false;
-        }
-        false
+        self.x == k && self.y == k && self.z == k
     }
 
     // The three numbers of a lent slice from place `at` on; a NaN for each place beyond its end.
@@ -207,10 +191,7 @@ impl Vec3 {
 fn limited(x: f64, limit: f64) -> bool
     ensures { result ≡ within limit x }
 {
-    if x <= limit {
-        return -x <= limit;
-    }
-    false
+    x <= limit && -x <= limit
 }
 
 // The number at a place of a lent slice, or a NaN beyond its end.
@@ -261,12 +242,10 @@ impl Ray {
     }
 
     // Whether the ray is admitted (rule N3): no number of its origin beyond 2^40 in size, none of its direction beyond 2. Zeros will do.
+    #[tactic(auto, unfolding(crate::specs::Vector::admitted_ray))]
     pub fn admitted(self) -> bool
         ensures { result ≡ admitted_ray self }
     {
-        if self.origin.within(float::TWO_TO_40) {
-            return self.direction.within(2.0);
-        }
-        false
+        self.origin.within(float::TWO_TO_40) && self.direction.within(2.0)
     }
 }

@@ -1,9 +1,9 @@
 -- The loop's invariant: the axes that are left, from the interval so far, give the whole answer. Assumes nothing.
-use mathlib.Core.Path.{◌∙◌}
+use mathlib.Core.Path.{◌∙◌, refl}
 use native.Mathlib.Omega.{arith}
 use Rattle.aabb.specs.Slab.{reach}
 use Rattle.aabb.proofs.Axes.{Here, begun, done, flat_below, flat_above, flat_within, ruled_out, left_open}
-use Rattle.aabb.proofs.slab.Aim.through.Goals.{After-along-max, then-s+else-s-min+else-s-max, else-s+else-enter-exit}
+use Rattle.aabb.proofs.slab.Aim.through.Goals.{After-along-max, then-s-min-via-then-s-min, then-s-min-via-else-s-min+then-s-max, then-s+else-s-min+else-s-max, else-s+else-enter-exit}
 use Rattle.aabb.proofs.slab.Aim.through.Goals as goal
 
 here : (k : After-along-max)
@@ -18,7 +18,7 @@ here k =
     }
 
 pub loop-axis-init : goal.loop-axis-init
-loop-axis-init c = begun _ _ _ c.infinity-exit.ensures
+loop-axis-init c = begun _ _ _ refl
 
 pub overflow_add-axis : goal.overflow_add-axis
 overflow_add-axis c = omega arith
@@ -38,11 +38,12 @@ pub returns-then-axis-eq3 : goal.returns-then-axis-eq3
 returns-then-axis-eq3 c = c.ahead.ensures ∙ done c.loop-axis.invariant c.if-axis-eq3.true
 
 pub returns-then-s-min : goal.returns-then-s-min
-returns-then-s-min c = flat_below (here c.before.before.before) c.if-s.true c.if-s-min.true
-
-pub returns-then-s-max : goal.returns-then-s-max
-returns-then-s-max c =
-    flat_above (here c.before.before.before.before.before) c.if-s.true c.if-s-min.false c.if-s-max.true
+returns-then-s-min c =
+    let h = here (goal.at.returns-then-s-min c).After-along-max in
+    elim c.then-s-min.branch [
+      | then-s-min-via-then-s-min w ↦ flat_below h c.if-s.true w.if-s-min.true
+      | then-s-min-via-else-s-min+then-s-max w ↦ flat_above h c.if-s.true w.if-s-min.false w.if-s-max.true
+    ]
 
 pub returns-then-enter-exit : goal.returns-then-enter-exit
 unfolding reach
