@@ -38,6 +38,7 @@ impl Aabb {
     }
 
     // The box of three points: `from_points` of the Rust, as far as it is needed.
+    #[tactic(auto, unfolding(crate::specs::Bounds::of_three))]
     pub fn from_points(a: Vec3, b: Vec3, c: Vec3) -> Aabb
         ensures { result ≡ of_three a b c }
     {
@@ -45,6 +46,7 @@ impl Aabb {
     }
 
     // The box, grown to hold the point.
+    #[tactic(auto, unfolding(crate::specs::Bounds::grown))]
     pub fn grow(self, point: Vec3) -> Aabb
         ensures { result ≡ grown self point }
     {
@@ -54,6 +56,7 @@ impl Aabb {
     }
 
     // The least box that holds both.
+    #[tactic(auto, unfolding(crate::specs::Bounds::union))]
     pub fn union(self, other: Aabb) -> Aabb
         ensures { result ≡ union self other }
     {
@@ -64,6 +67,7 @@ impl Aabb {
 
     // The box, widened to hold the point, by one comparison a number: as `grow` for every box that has grown from the empty one, which has no NaN; a NaN of
     // `self` is kept.
+    #[tactic(auto, unfolding(crate::specs::Bounds::widened))]
     pub fn widened(self, point: Vec3) -> Aabb
         ensures { result ≡ widened self point }
     {
@@ -73,6 +77,7 @@ impl Aabb {
     }
 
     // The box, joined with another, likewise: as `union`.
+    #[tactic(auto, unfolding(crate::specs::Bounds::joined))]
     pub fn joined(self, other: Aabb) -> Aabb
         ensures { result ≡ joined self other }
     {
@@ -82,6 +87,7 @@ impl Aabb {
     }
 
     // (min + max)·0.5
+    #[tactic(auto, unfolding(crate::specs::Bounds::center))]
     pub fn center(self) -> Vec3
         ensures { result ≡ center self }
     {
@@ -89,6 +95,7 @@ impl Aabb {
     }
 
     // max - min
+    #[tactic(auto, unfolding(crate::specs::Bounds::extent))]
     pub fn extent(self) -> Vec3
         ensures { result ≡ extent self }
     {

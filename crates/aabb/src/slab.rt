@@ -40,6 +40,7 @@ impl Aabb {
 }
 
 impl Sight {
+    #[tactic(auto, unfolding(crate::specs::Slab::sighted))]
     pub fn of(origin: f64, dir: f64) -> Sight
         ensures { result ≡ sighted origin dir }
     {
@@ -62,6 +63,7 @@ impl Aim {
         Aim { ray, x, y, z }
     }
 
+    #[tactic(auto, unfolding(crate::specs::Slab::sight_on))]
     fn along(self, axis: usize) -> Sight
         ensures { result ≡ sight_on axis self }
     {
@@ -108,12 +110,14 @@ impl Aim {
 }
 
 // The sooner and the later of the times at which the ray reaches the slab's sides (rule B10).
+#[tactic(auto, unfolding(crate::specs::Slab::first))]
 fn first(t0: f64, t1: f64) -> f64
     ensures { result ≡ first t0 t1 }
 {
     if t0 > t1 { t1 } else { t0 }
 }
 
+#[tactic(auto, unfolding(crate::specs::Slab::second))]
 fn second(t0: f64, t1: f64) -> f64
     ensures { result ≡ second t0 t1 }
 {
@@ -121,6 +125,7 @@ fn second(t0: f64, t1: f64) -> f64
 }
 
 // What lies behind the ray is missed (rule B11).
+#[tactic(auto, unfolding(crate::specs::Slab::ahead))]
 fn ahead(enter: f64, exit: f64) -> Option<Span>
     ensures { result ≡ ahead enter exit }
 {

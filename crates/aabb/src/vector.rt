@@ -75,6 +75,7 @@ impl Vec3 {
     }
 
     // (x·x' + y·y') + z·z'
+    #[tactic(auto, unfolding(crate::specs::Vector::dot))]
     pub fn dot(self, other: Vec3) -> f64
         ensures { result ≡ dot self other }
     {
@@ -82,6 +83,7 @@ impl Vec3 {
     }
 
     // (y·z' - z·y', z·x' - x·z', x·y' - y·x')
+    #[tactic(auto, unfolding(crate::specs::Vector::cross, crate::specs::Vector::minor))]
     pub fn cross(self, other: Vec3) -> Vec3
         ensures { result ≡ cross self other }
     {
@@ -125,6 +127,7 @@ impl Vec3 {
     }
 
     // The component on an axis: x at 0, y at 1, z at 2 and beyond.
+    #[tactic(auto, unfolding(crate::specs::Vector::along))]
     pub fn along(self, axis: usize) -> f64
         ensures { result ≡ along axis self }
     {
@@ -235,6 +238,7 @@ impl Ray {
     }
 
     // The point at t: origin + direction·t, by component.
+    #[tactic(auto, unfolding(crate::specs::Vector::point_at))]
     pub fn at(self, t: f64) -> Vec3
         ensures { result ≡ point_at self t }
     {
