@@ -6,27 +6,26 @@ use lib.Dec.{T, leb, eqb}
 use lib.Ieee.{Float, nan, inf, fin, binary64, div, ne, is_nan, of_bits, of_fields, to_bits, nan_bits, hid, ones, top}
 use borrow.Author.Tests.{eq-eqb, ne_eqb}
 use Rattle.float.proofs.Order.{clash}
-use Rattle.float.proofs.Pick.{nan_test}
 
-is_nan_lem : (x : Float) → is_nan x ≡ true → x ≡ nan
+pub is_nan_lem : (x : Float) → is_nan x ≡ true → x ≡ nan
 unfolding is_nan
 is_nan_lem nan p = refl
 is_nan_lem (inf s) p = clash false p refl
 is_nan_lem (fin s m e) p = clash false p refl
 
-pub nan_pattern : (x : Float) → ne x x ≡ true → 0x7ff8_0000_0000_0000 ≡ to_bits binary64 x
+pub nan_pattern : (x : Float) → is_nan x ≡ true → 0x7ff8_0000_0000_0000 ≡ to_bits binary64 x
 unfolding to_bits
-nan_pattern x p = rw (is_nan_lem x (sym (nan_test x) ∙ p))
+nan_pattern x p = rw (is_nan_lem x p)
 
-pub no_nan : (x : Float) → ne x x ≡ false → T (not (is_nan x))
-no_nan x p = rw (sym (nan_test x) ∙ p) tt
+pub no_nan : (x : Float) → is_nan x ≡ false → T (not (is_nan x))
+no_nan x p = rw p tt
 
 fields_nan : (s : Bool) (x t : ℕ) → x ≡ 2047 → (t ≡ 0 → ⊥) → nan ≡ of_fields binary64 s x t
 unfolding of_fields
 fields_nan s x t p q = rw (p, ne_eqb t 0 q)
 
 module _ (b : ℕ) where
-  pub nan_of : b % 0x8000_0000_0000_0000 / 0x10_0000_0000_0000 ≡ 2047 → (b % 0x10_0000_0000_0000 ≡ 0 → ⊥) → div binary64 (of_bits binary64 0) (of_bits binary64 0) ≡ of_bits binary64 b
+  pub nan_of : b % 0x8000_0000_0000_0000 / 0x10_0000_0000_0000 ≡ 2047 → (b % 0x10_0000_0000_0000 ≡ 0 → ⊥) → of_bits binary64 0x7ff8_0000_0000_0000 ≡ of_bits binary64 b
   unfolding div of_bits
   nan_of p q = fields_nan (leb (top binary64) b) (b % top binary64 / hid binary64) (b % hid binary64) p q
 

@@ -79,27 +79,6 @@ lesser_mono run x run' x' h k =
     let q = le→real_l x x' k in
     lesser_most run' x' (lesser run x) (le_trans (lesser run x) run run' (lesser_left run x p q) h) (le_trans (lesser run x) x x' (lesser_right run x p q) k)
 
--- ---- a NaN is what differs from itself, as code tests for one
-not_both : (p q : Bool) → T p → T q → not (p && q) ≡ false
-not_both true true a b = refl
-not_both true false a b = absurd b
-not_both false q a b = absurd a
-
-pub nan_test : (x : Float) → ne x x ≡ is_nan x
-unfolding ne is_nan
-nan_test nan = refl
-nan_test (inf true) = refl
-nan_test (inf false) = refl
-nan_test (fin true m e) = not_both (eqb (m * up e * down e) (m * up e * down e)) true (eqb_refl (m * up e * down e)) tt
-nan_test (fin false m e) = not_both (eqb (m * up e * down e) (m * up e * down e)) true (eqb_refl (m * up e * down e)) tt
-
--- each arm of the code, for the lesser and the greater alike: t is the comparison
-pub arm_less : (t : Bool) (run x : Float) → t ≡ true → x ≡ cond (t || is_nan run) x run
-arm_less t run x p = rw p
-
-pub arm_rest : (t b : Bool) (run x : Float) → t ≡ false → ne run run ≡ b → cond b x run ≡ cond (t || is_nan run) x run
-arm_rest t b run x p q = rw (p, ← q, nan_test run)
-
 -- ---- beside a running number that is no NaN one comparison does, for the lesser and the greater alike: t is the comparison
 beside_is : (t : Bool) (run x : Float) → T (real run) → cond t x run ≡ cond (t || is_nan run) x run
 unfolding is_nan

@@ -11,8 +11,8 @@ use lib.Pow.{pow_mono, shr_lt}
 use lib.Ieee.{Float, binary32, binary64, of_bits, to_bits, nan_bits, fits, is_nan, ne}
 use lib.Ieee.Bits.{is_true, nan_bits_is, nan_bits_above, of_bits-to_bits, of_bits-fits, to_bits-lt}
 use lib.Ieee.Fits.{and_l, and_i, eq→eqb, fits_widens}
-use lib.Ieee.Compare.{differs_from_itself}
 use Rattle.float.specs.Single.{exactly32}
+use Rattle.float.proofs.Patterns.{is_nan_lem}
 use Rattle.float.proofs.Cases.{same_test}
 use Rattle.float.proofs.SingleForms.{Form, Packs, packs_of, found_back, none_back, few_back, many_back, most_back, none_forward, many_forward}
 
@@ -61,9 +61,9 @@ module _ (b : ℕ) where
   points_most h = points 2139095040 (omega arith) (λ w f. most_back (w % 2147483648) sized f h)
 
 -- ---- the test
-pub nan_inexact : (x : Float) → ne x x ≡ true → false ≡ exactly32 x
+pub nan_inexact : (x : Float) → is_nan x ≡ true → false ≡ exactly32 x
 unfolding exactly32 fits is_nan
-nan_inexact x p = rw (differs_from_itself x (subst T (sym p) tt))
+nan_inexact x p = rw (is_nan_lem x p)
 
 pub real_number : (r : ℕ) → T (not (nan_bits binary32 r)) → T (not (is_nan (of_bits binary32 r)))
 real_number r n = subst (λ (b : Bool). T (not b)) (nan_bits_is binary32 r) n

@@ -16,7 +16,6 @@ use Rattle.float.specs.Total.{lex, less_number, minus_zero, less_zero, total_les
 use Rattle.float.proofs.Cases.{and_last, and_true, false_is, true_is}
 use Rattle.float.proofs.Numbers.{nought_is, one_is}
 use Rattle.float.proofs.Order.{clash, lt→le, le→real_l, le→real_r, le→not_lt, not_lt→le, le_trans}
-use Rattle.float.proofs.Pick.{nan_test}
 use Rattle.float.proofs.Absolute.{is_zero, not_zero}
 
 -- ---- first by R, then by S
@@ -125,26 +124,11 @@ unfolding less_zero
 level_zero x y p = rw p
 
 -- ---- a NaN
-real_not : (x : Float) → real x ≡ not (is_nan x)
+pub real_not : (x : Float) → real x ≡ not (is_nan x)
 unfolding is_nan
 real_not nan = refl
 real_not (inf s) = refl
 real_not (fin s m e) = refl
-
-real_is : (x : Float) (t : Bool) → ne x x ≡ t → real x ≡ not t
-real_is x t p = real_not x ∙ ap not (sym (nan_test x) ∙ p)
-
-pub num_first : (x y : Float) → ne x x ≡ true → false ≡ less_number x y
-unfolding less_number
-num_first x y p = rw (real_is x true p)
-
-pub num_second : (x y : Float) → ne x x ≡ false → ne y y ≡ true → true ≡ less_number x y
-unfolding less_number
-num_second x y p q = rw (real_is x false p, real_is y true q)
-
-pub num_both : (x y : Float) → ne x x ≡ false → ne y y ≡ false → lt x y ≡ less_number x y
-unfolding less_number
-num_both x y p q = rw (real_is x false p, real_is y false q)
 
 -- ---- the zero with the sign
 zero_yes : (x : Float) → eq x (fin false 0 (pos 0)) ≡ true → lt (div binary64 (fin false 1 (pos 0)) x) (fin false 0 (pos 0)) ≡ minus_zero x

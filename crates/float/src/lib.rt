@@ -18,11 +18,11 @@ pub use square_root::root;
 // 2^40, the limit of vertices, of a ray's origin and of boxes.
 pub const TWO_TO_40: f64 = 1099511627776.0;
 
-// +inf, which no literal can be.
+// +inf.
 pub fn infinity() -> f64
     ensures { result ≡ infinity }
 {
-    1.0 / 0.0
+    f64::INFINITY
 }
 
 // |x|; a NaN stays one.
@@ -39,29 +39,19 @@ pub fn magnitude(x: f64) -> f64
 }
 
 // The lesser of the running number and x (rule F4): a NaN gives way, and beside an equal number the running one stays.
+#[tactic(auto, unfolding(crate::specs::Pick::lesser))]
 pub fn lesser(run: f64, x: f64) -> f64
     ensures { result ≡ lesser run x }
 {
-    if x < run {
-        return x;
-    }
-    if run != run {
-        return x;
-    }
-    run
+    if x < run || run.is_nan() { x } else { run }
 }
 
 // The greater of the running number and x (rule F4): a NaN gives way, and beside an equal number the running one stays.
+#[tactic(auto, unfolding(crate::specs::Pick::greater))]
 pub fn greater(run: f64, x: f64) -> f64
     ensures { result ≡ greater run x }
 {
-    if run < x {
-        return x;
-    }
-    if run != run {
-        return x;
-    }
-    run
+    if run < x || run.is_nan() { x } else { run }
 }
 
 // Beside a running number that is no NaN, the lesser by one comparison (proofs/Pick.antt: `lower_is`); a running NaN is kept.
@@ -82,46 +72,30 @@ pub fn higher(run: f64, x: f64) -> f64
 pub fn minus_zero(x: f64) -> bool
     ensures { result ≡ minus_zero x }
 {
-    if x == 0.0 {
-        return 1.0 / x < 0.0;
-    }
-    false
+    x == 0.0 && 1.0 / x < 0.0
 }
 
 // Whether x is the lesser number; a NaN is above every number.
+#[tactic(auto, using(crate::proofs::Total::real_not), unfolding(crate::specs::Total::less_number))]
 pub fn less_number(x: f64, y: f64) -> bool
     ensures { result ≡ less_number x y }
 {
-    if x != x {
-        return false;
-    }
-    if y != y {
-        return true;
-    }
-    x < y
+    !x.is_nan() && (y.is_nan() || x < y)
 }
 
 // Whether x comes before y by `total_cmp`: by number, -0 before +0, a NaN last.
+#[tactic(auto, unfolding(crate::specs::Total::total_less, crate::specs::Total::less_zero))]
 pub fn total_less(x: f64, y: f64) -> bool
     ensures { result ≡ total_less x y }
 {
-    if less_number(x, y) {
-        return true;
-    }
-    if less_number(y, x) {
-        return false;
-    }
-    if minus_zero(x) {
-        return !minus_zero(y);
-    }
-    false
+    less_number(x, y) || !less_number(y, x) && minus_zero(x) && !minus_zero(y)
 }
 
 // The bit pattern of x; of a NaN the one with the sign clear and only the highest digit set.
 pub fn bits(x: f64) -> u64
     ensures { result ≡ to_bits binary64 x }
 {
-    if x != x {
+    if x.is_nan() {
         return 0x7ff8_0000_0000_0000;
     }
     f64::to_bits(x)
@@ -135,7 +109,7 @@ pub fn from_bits(pattern: u64) -> f64
         if pattern % 0x10_0000_0000_0000 == 0 {
             return f64::from_bits(pattern);
         }
-        return 0.0 / 0.0;
+        return f64::NAN;
     }
     f64::from_bits(pattern)
 }

@@ -9,15 +9,12 @@ ghost use Rattle.float.specs.Single.{exactly32};
 pub fn is_single(x: f64) -> bool
     ensures { result ≡ exactly32 x }
 {
-    if x != x {
+    if x.is_nan() {
         return false;
     }
     let pattern = f64::to_bits(x);
     let size = pattern % 0x8000_0000_0000_0000;
-    if size == 0 {
-        return true;
-    }
-    if short(size) {
+    if size == 0 || short(size) {
         return true;
     }
     let back = f32::from_bits(candidate(pattern)) as f64;
@@ -28,13 +25,7 @@ pub fn is_single(x: f64) -> bool
 fn short(size: u64) -> bool
     ensures { T result → (size % 536870912 ≡ 0) × (897 * 4503599627370496 ≤ size) × (size < 1151 * 4503599627370496) }
 {
-    if size % 0x2000_0000 == 0 {
-        if size >= 0x3810_0000_0000_0000 {
-            return size < 0x47f0_0000_0000_0000;
-        }
-        return false;
-    }
-    false
+    size % 0x2000_0000 == 0 && size >= 0x3810_0000_0000_0000 && size < 0x47f0_0000_0000_0000
 }
 
 // The one binary32 whose number can have this binary64's pattern, by where its digits and its exponent's field go.
