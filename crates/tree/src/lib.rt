@@ -28,6 +28,7 @@ pub fn word(words: &[u32], at: usize) -> u32
 }
 
 // Node i with the box given, where not all of its links are there.
+#[tactic(auto, unfolding(crate::specs::Node::linked))]
 fn cut(bounds: Aabb, links: &[u32], i: usize) -> Node
     ensures { result ≡ linked bounds links.now i }
 {
@@ -53,6 +54,7 @@ fn cut(bounds: Aabb, links: &[u32], i: usize) -> Node
 
 impl Node {
     // Node i; a NaN for each number of box, and 0 for each link, that is beyond the lists' ends.
+    #[tactic(auto, unfolding(crate::specs::Node::linked, crate::specs::Node::node_at))]
     pub fn read(boxes: &[f64], links: &[u32], i: usize) -> Node
         ensures { result ≡ node_at boxes.now links.now i }
     {
@@ -80,12 +82,14 @@ impl Node {
     }
 
     // The children of an internal node, whose number is i.
+    #[tactic(auto, unfolding(crate::specs::Node::left_of))]
     pub fn left(self, i: u32) -> usize
         ensures { result ≡ left_of i self }
     {
         self.left_or_first as usize
     }
 
+    #[tactic(auto, unfolding(crate::specs::Node::right_of))]
     pub fn right(self, i: u32) -> usize
         ensures { result ≡ right_of i self }
     {
