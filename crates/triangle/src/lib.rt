@@ -5,7 +5,7 @@
 
 mod normals; // normals.rt: Triangle::new, and the call that refills a mesh
 
-ghost use Rattle.std.specs.Prelude.{◌≡◌, ◌+◌, ◌≤◌, length};
+ghost use Rattle.std.specs.Prelude.{◌≡◌, ◌+◌, ◌/◌, ◌<◌, ◌≤◌, length};
 ghost use Rattle.float.specs.Number.{three};
 ghost use Rattle.aabb.specs.Vector.{vector_at, plus, divided};
 ghost use Rattle.triangle.specs.Mesh.{triangle_at, corners_of, bounds_of, centroid_of, admitted_triangle, first_refused};
@@ -59,12 +59,7 @@ impl Triangle {
         ensures { result ≡ triangle_at mesh.now i }
     {
         if i < mesh.len() / 12 {
-            let at = i * 12;
-            let v0 = three(mesh, at);
-            let v1 = three(mesh, at + 3);
-            let v2 = three(mesh, at + 6);
-            let normal = three(mesh, at + 9);
-            return Triangle { v0, v1, v2, normal };
+            return whole(mesh, i);
         }
         let at = aabb::vector::place(mesh, i, 12);
         let v0 = Vec3::read(mesh, at);
@@ -99,19 +94,14 @@ impl Triangle {
     }
 
     // Whether it is admitted (rule N2): no number of a vertex beyond 2^40 in size, none of the normal beyond 2.
+    #[tactic(auto, unfolding(crate::specs::Mesh::admitted_triangle))]
     pub fn admitted(self) -> bool
         ensures { result ≡ admitted_triangle self }
     {
-        if self.v0.within(float::TWO_TO_40) {
-            if self.v1.within(float::TWO_TO_40) {
-                if self.v2.within(float::TWO_TO_40) {
-                    return self.normal.within(2.0);
-                }
-                return false;
-            }
-            return false;
-        }
-        false
+        self.v0.within(float::TWO_TO_40)
+            && self.v1.within(float::TWO_TO_40)
+            && self.v2.within(float::TWO_TO_40)
+            && self.normal.within(2.0)
     }
 
     // How far along the ray the triangle is met, without the hit.
@@ -122,32 +112,25 @@ impl Triangle {
     }
 
     // The hit at distance t (rule T5), with the normal turned to the ray's side, and u and v worked out as the test works them out.
+    #[tactic(auto, unfolding(crate::specs::Meeting::hit_at, crate::specs::Meeting::faces, crate::specs::Meeting::crossing_of))]
     pub fn hit(self, ray: Ray, t: f64, number: u32, material: u32) -> Hit
         ensures { result ≡ hit_at ray self number material t }
     {
         let point = ray.at(t);
         let spot = self.corners().crossing(ray);
-        let normal = self.normal;
-        if ray.direction.dot(normal) < 0.0 {
-            return Hit {
-                t,
-                point,
-                normal,
-                u: spot.u,
-                v: spot.v,
-                front: true,
-                triangle: number,
-                material,
-            };
-        }
-        let turned = normal.negated();
+        let front = ray.direction.dot(self.normal) < 0.0;
+        let normal = if front {
+            self.normal
+        } else {
+            self.normal.negated()
+        };
         Hit {
             t,
             point,
-            normal: turned,
+            normal,
             u: spot.u,
             v: spot.v,
-            front: false,
+            front,
             triangle: number,
             material,
         }
@@ -246,16 +229,7 @@ impl Crossing {
 pub fn admitted_at(mesh: &[f64], i: usize) -> bool
     ensures { result ≡ admitted_triangle (triangle_at mesh.now i) }
 {
-    if i < mesh.len() / 12 {
-        let at = i * 12;
-        let v0 = three(mesh, at);
-        let v1 = three(mesh, at + 3);
-        let v2 = three(mesh, at + 6);
-        let normal = three(mesh, at + 9);
-        let t = Triangle { v0, v1, v2, normal };
-        return t.admitted();
-    }
-    false
+    i < mesh.len() / 12 && whole(mesh, i).admitted()
 }
 
 // The lowest number, below n, of a triangle that isn't admitted.
@@ -265,7 +239,7 @@ pub fn first_refused(mesh: &[f64], n: usize) -> Option<usize>
     (0..n).find(|i| !admitted_at(mesh, *i))
 }
 
-// Three numbers of a mesh that are there: one test of a triangle's place does for all twelve.
+// Three numbers of a mesh, which are there.
 fn three(mesh: &[f64], at: usize) -> Vec3
     requires { at + 3 ≤ length mesh.now }
     ensures { result ≡ vector_at mesh.now at }
@@ -275,4 +249,18 @@ fn three(mesh: &[f64], at: usize) -> Vec3
         y: mesh[at + 1],
         z: mesh[at + 2],
     }
+}
+
+// Triangle i, which is there: one test of its place does for all twelve numbers.
+#[tactic(auto, unfolding(crate::specs::Mesh::triangle_at))]
+fn whole(mesh: &[f64], i: usize) -> Triangle
+    requires { i < length mesh.now / 12 }
+    ensures { result ≡ triangle_at mesh.now i }
+{
+    let at = i * 12;
+    let v0 = three(mesh, at);
+    let v1 = three(mesh, at + 3);
+    let v2 = three(mesh, at + 6);
+    let normal = three(mesh, at + 9);
+    Triangle { v0, v1, v2, normal }
 }

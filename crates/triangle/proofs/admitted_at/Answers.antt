@@ -1,13 +1,9 @@
--- Assumes nothing.
-use mathlib.Core.Path.{ap, ◌∙◌}
+-- Beyond the mesh's end there is none. Assumes nothing.
+use mathlib.Core.Path.{◌∙◌}
 use native.Mathlib.Omega.{arith}
-use Rattle.triangle.specs.Mesh.{triangle_at, admitted_triangle}
+use borrow.Author.Tests.{le-ltb}
 use Rattle.triangle.proofs.Steps.{none_beyond}
 use Rattle.triangle.proofs.admitted_at.Goals as goal
 
-pub returns-then-i-mesh : goal.returns-then-i-mesh
-unfolding triangle_at
-returns-then-i-mesh c = c.admitted.ensures ∙ ap admitted_triangle cc
-
-pub returns : goal.returns
-returns c = none_beyond _ _ (omega arith)
+pub returns-else-i-mesh : goal.returns-else-i-mesh
+returns-else-i-mesh c = le-ltb _ _ c.if-i-mesh.false ∙ none_beyond _ _ (omega arith)
