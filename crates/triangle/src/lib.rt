@@ -70,6 +70,7 @@ impl Triangle {
     }
 
     // The box of the three vertices.
+    #[tactic(auto, unfolding(crate::specs::Mesh::bounds_of))]
     pub fn aabb(self) -> Aabb
         ensures { result ≡ bounds_of self }
     {
@@ -77,6 +78,7 @@ impl Triangle {
     }
 
     // The three vertices.
+    #[tactic(auto, unfolding(crate::specs::Mesh::corners_of))]
     pub fn corners(self) -> Corners
         ensures { result ≡ corners_of self }
     {
@@ -168,6 +170,7 @@ impl Corners {
     }
 
     // The numbers of the test, step by step as the Rust works them out.
+    #[tactic(auto, unfolding(crate::specs::Meeting::crossing_of, crate::specs::Meeting::det, crate::specs::Meeting::edge1, crate::specs::Meeting::edge2, crate::specs::Meeting::inv_det, crate::specs::Meeting::pvec, crate::specs::Meeting::qvec, crate::specs::Meeting::t_of, crate::specs::Meeting::tvec, crate::specs::Meeting::u_of, crate::specs::Meeting::v_of))]
     pub fn crossing(self, ray: Ray) -> Crossing
         ensures { result ≡ crossing_of ray self }
     {
@@ -240,6 +243,7 @@ pub fn first_refused(mesh: &[f64], n: usize) -> Option<usize>
 }
 
 // Three numbers of a mesh, which are there.
+#[tactic(auto, unfolding(aabb::specs::Vector::vector_at))]
 fn three(mesh: &[f64], at: usize) -> Vec3
     requires { at + 3 ≤ length mesh.now }
     ensures { result ≡ vector_at mesh.now at }

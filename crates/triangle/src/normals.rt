@@ -89,6 +89,7 @@ fn fill_one(mesh: &mut [f64], i: usize)
     put(mesh, i * 12 + 9, normal);
 }
 
+#[tactic(auto, unfolding(crate::specs::Refilled::put))]
 fn put(mesh: &mut [f64], at: usize, v: Vec3)
     requires { at + 3 ≤ length mesh.old }
     ensures { mesh.new ≡ put mesh.old at v }
