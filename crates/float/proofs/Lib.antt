@@ -13,10 +13,9 @@ mod Patterns
 mod SingleForms
 pub mod SingleExact
 mod RootWhole
-mod RootHalves
 mod RootScaled
 mod RootRead
-mod RootCases
 pub mod RootNearest
+mod RootRounded
 pub mod RootBounds
 mod RootRows

@@ -11,13 +11,13 @@ use lib.Pow.{pow-add, pow_pos, pow_mono, shl_lt}
 use lib.Count.{count_leading_zeros}
 use lib.Ieee.{Float, nan, inf, fin, binary64, up, down, fits, size, units, to_bits, of_bits}
 use lib.Ieee.Exact.{HasValue, units_val}
-use lib.Ieee.Bits.{of_bits-to_bits, of_bits-fits}
+use lib.Ieee.Bits.{of_bits-to_bits}
 use lib.Ieee.Positive.{positive, positive_of_value}
 use borrow.Author.Tests.{ltb-true, ltb-false}
 use Rattle.float.specs.Root.{in_units, nearest_root, root_of, root}
 use Rattle.float.specs.Nearest.{number, square, Nearest, IsRoot}
 use Rattle.float.proofs.RootWhole.{Near}
-use Rattle.float.proofs.RootScaled.{four, even_lo, even_hi, scaled, root_scaled, root_lo, root_hi, near, bits_of, within, units_read}
+use Rattle.float.proofs.RootScaled.{four, even_lo, even_hi, scaled, root_scaled, root_lo, root_hi, near, bits_of, within, units_held}
 use Rattle.float.proofs.RootRead.{shifted, units_of, root_of_lem, read_low, high_value, high_small, high_scaled, low_above, low_scaled}
 
 -- ---- the squares of the middles, for a root q * P of M * P²
@@ -145,10 +145,10 @@ scale x p f = go (ltb (to_bits binary64 x) (2 ^ 52)) refl
         let z = count_leading_zeros 64 b - 11 in
         let s = shifted b (low_above x p f b refl h) h in
         record {
-          c = b * 2 ^ z % 2 ^ 64;
+          c = b * 2 ^ z;
           j = 1074 - z;
-          lo = subst (λ (n : ℕ). 2 ^ 52 ≤ n) (sym s.exact) s.lower;
-          hi = subst (λ (n : ℕ). n < 2 ^ 53) (sym s.exact) s.upper;
+          lo = s.lower;
+          hi = s.upper;
           low = omega (arith, s.few);
           high = omega arith;
           is = low_scaled x p f b refl h;
@@ -168,19 +168,19 @@ scale x p f = go (ltb (to_bits binary64 x) (2 ^ 52)) refl
 
 -- ---- the root of a number above zero
 module _ (x : Float) (p : T (positive x)) (f : T (fits binary64 x)) where
-  record At : Type 0 where
-    M : ℕ
-    q : ℕ
-    h : ℕ
-    close : Near M q
-    whole : in_units x * 2 ^ 1074 ≡ M * (2 ^ h * 2 ^ h)
-    lo : 2 ^ 52 ≤ q
-    hi : q < 2 ^ 53
-    large : 2 ^ 52 * 2 ^ 52 ≤ M
+  pub record At : Type 0 where
+    pub M : ℕ
+    pub q : ℕ
+    pub h : ℕ
+    pub close : Near M q
+    pub whole : in_units x * 2 ^ 1074 ≡ M * (2 ^ h * 2 ^ h)
+    pub lo : 2 ^ 52 ≤ q
+    pub hi : q < 2 ^ 53
+    pub large : 2 ^ 52 * 2 ^ 52 ≤ M
     small : h ≤ 1534
-    made : root x ≡ units binary64 false q h
+    pub made : root x ≡ units binary64 false q h
 
-  at : At
+  pub at : At
   at =
       let s = scale x p f in
       let j = s.j in
@@ -205,7 +205,7 @@ module _ (x : Float) (p : T (positive x)) (f : T (fits binary64 x)) where
       }
 
   value : HasValue (root x) false (at.q * 2 ^ at.h) (2 ^ 1074)
-  value = subst (λ (r : Float). HasValue r false (at.q * 2 ^ at.h) (2 ^ 1074)) (sym at.made) (units_val binary64 false at.q at.h (within at.q at.h at.lo at.hi at.small))
+  value = subst (λ (r : Float). HasValue r false (at.q * 2 ^ at.h) (2 ^ 1074)) (sym at.made) (units_val binary64 false at.q at.h (within at.q at.h at.hi at.small))
 
   R_is : in_units (root x) ≡ at.q * 2 ^ at.h
   R_is = units_of (root x) false (at.q * 2 ^ at.h) value
@@ -215,7 +215,7 @@ module _ (x : Float) (p : T (positive x)) (f : T (fits binary64 x)) where
 
   root_nearest : Nearest (in_units x * 2 ^ 1074) (root x)
   root_nearest = record {
-    held = subst (λ (r : Float). T (fits binary64 r)) (units_read at.q at.h at.lo at.hi at.small ∙ sym at.made) (of_bits-fits binary64 (at.h * 2 ^ 52 + at.q));
+    held = subst (λ (r : Float). T (fits binary64 r)) (sym at.made) (units_held at.q at.h at.hi at.small);
     above_zero = root_positive;
     to_lower = λ y n l.
         let v = parts y n in

@@ -4,23 +4,17 @@ use mathlib.Core.Path.{◌≡◌, refl, sym, ap, ◌∙◌, subst}
 use Prim.Native.Nat.{ℕ, zero, suc, ◌+◌, ◌-◌, ◌*◌, ◌/◌, ◌%◌, ◌^◌, ◌≤◌, ◌<◌}
 use native.Mathlib.Nat.{le_trans, lt_of_not-le, lt_of_lt_of_le, mul-le-mul_right, add_comm, mul_assoc, mul-one, mul-div_cancel, lt_irrefl}
 use native.Mathlib.Omega.{arith}
-use mathlib.Core.Bool.{Bool, true, false, not, cond}
+use mathlib.Core.Bool.{Bool, true, false, cond}
 use lib.Dec.{T, leb, eqb}
-use lib.Pow.{pow-add, pow_pos, pow_mono, shl_lt, shl_exact}
+use lib.Pow.{pow-add, pow_pos, pow_mono, shl_lt}
 use lib.Count.{count_leading_zeros, leading_top}
-use lib.Ieee.{Float, nan, inf, fin, binary64, down, fits, is_nan, odd, to_bits, of_bits, of_fields}
+use lib.Ieee.{Float, nan, inf, fin, binary64, down, fits, odd, to_bits, of_bits, of_fields}
 use lib.Ieee.Exact.{HasValue, odd_sign}
 use lib.Ieee.Fits.{down_pos}
 use lib.Ieee.Bits.{of_bits-to_bits}
 use lib.Ieee.Positive.{positive, value_pos}
 use borrow.Author.Tests.{leb-false, eqb-false}
 use Rattle.float.specs.Root.{in_units, root_of, root}
-
-pub positive_no_nan : (x : Float) → T (positive x) → T (not (is_nan x))
-unfolding is_nan
-positive_no_nan nan p = absurd p
-positive_no_nan (inf s) p = tt
-positive_no_nan (fin s m e) p = tt
 
 -- ---- what is n units
 pub units_of : (x : Float) (s : Bool) (n : ℕ) → HasValue x s n (2 ^ 1074) → in_units x ≡ n
@@ -71,7 +65,6 @@ high x s k t p e = go (eqb (suc k) 2047) refl e
 -- ---- a number of less than 53 digits, shifted until they are 53
 pub record Shifted (b z : ℕ) : Type 0 where
   pub few : z ≤ 52
-  pub exact : b * 2 ^ z % 2 ^ 64 ≡ b * 2 ^ z
   pub lower : 2 ^ 52 ≤ b * 2 ^ z
   pub upper : b * 2 ^ z < 2 ^ 53
 
@@ -79,7 +72,6 @@ shift_by : (b j z : ℕ) → 2 ^ j ≤ b → b < 2 ^ suc j → j + z ≡ 52 → 
 shift_by b j z lo hi e =
     record {
       few = omega arith;
-      exact = shl_exact {a = b} (suc j) z 64 hi (omega arith);
       lower = subst (λ (n : ℕ). n ≤ b * 2 ^ z) (sym (pow-add 2 j z) ∙ ap (λ (n : ℕ). 2 ^ n) e) (mul-le-mul_right (2 ^ z) lo);
       upper = subst (λ (n : ℕ). b * 2 ^ z < 2 ^ n) (up_one j z e) (shl_lt {a = b} (suc j) z hi);
     }
@@ -93,9 +85,6 @@ module _ (b : ℕ) (pos : 0 < b) (h : b < 2 ^ 52) where
 
   below : top.0 < 52
   below = lt_of_not-le (λ (g : 52 ≤ top.0). lt_irrefl b (lt_of_lt_of_le h (le_trans (pow_mono g) top.2)))
-
-  pub zeros : 11 < count_leading_zeros 64 b
-  zeros = omega (arith, top.1, below)
 
   pub shifted : Shifted b (count_leading_zeros 64 b - 11)
   shifted = shift_by b top.0 (count_leading_zeros 64 b - 11) top.2 top.3 (omega (arith, top.1, below))
@@ -155,12 +144,11 @@ module _ (x : Float) (p : T (positive x)) (f : T (fits binary64 x)) (b : ℕ) (i
   pub low_above : b < 2 ^ 52 → 0 < b
   low_above h = value_pos x b (2 ^ 1074) p (pow_pos 1074) (read_low h)
 
-  pub low_scaled : (h : b < 2 ^ 52) → b * 2 ^ (count_leading_zeros 64 b - 11) % 2 ^ 64 * 2 ^ (1074 - (count_leading_zeros 64 b - 11)) ≡ in_units x * 2 ^ 1074
+  pub low_scaled : (h : b < 2 ^ 52) → b * 2 ^ (count_leading_zeros 64 b - 11) * 2 ^ (1074 - (count_leading_zeros 64 b - 11)) ≡ in_units x * 2 ^ 1074
   low_scaled h =
       let s = shifted b (low_above h) h in
       let z = count_leading_zeros 64 b - 11 in
-      ap (λ (n : ℕ). n * 2 ^ (1074 - z)) s.exact
-      ∙ mul_assoc b (2 ^ z) (2 ^ (1074 - z))
+      mul_assoc b (2 ^ z) (2 ^ (1074 - z))
       ∙ ap (λ (n : ℕ). b * n) (sym (pow-add 2 z (1074 - z)))
       ∙ ap (λ (n : ℕ). b * 2 ^ n) (whole z s.few)
       ∙ ap (λ (n : ℕ). n * 2 ^ 1074) (sym (units_of x false b (read_low h)))

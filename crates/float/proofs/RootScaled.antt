@@ -1,20 +1,18 @@
--- The root of c * 2^j for a c of 53 digits: half of the twos come out of the root, and what `units` writes is read from the bits that the code makes.
+-- The root of c * 2^j for a c of 53 digits: half of the twos come out of the root, and what `units` writes is a number of the format.
 -- Assumes nothing.
 use mathlib.Core.Path.{◌≡◌, refl, sym, ap, ◌∙◌, subst}
-use Prim.Native.Nat.{ℕ, zero, suc, ◌+◌, ◌-◌, ◌*◌, ◌/◌, ◌%◌, ◌^◌, ◌≤◌, ◌<◌}
+use Prim.Native.Nat.{ℕ, zero, suc, ◌+◌, ◌-◌, ◌*◌, ◌/◌, ◌^◌, ◌≤◌, ◌<◌}
 use native.Mathlib.Nat.{zero-add, le_trans, le_antisymm, le_of_suc-le-suc, lt_of_not-le, lt_of_lt_of_le, lt_irrefl, zero-lt-suc, one-le-pow, mul-le-mul_right, mul-le-mul_left, mul-div_cancel, pow-suc}
 use native.Mathlib.Omega.{arith}
-use mathlib.Core.Bool.{Bool, true, false, not, cond}
+use mathlib.Core.Bool.{Bool, true, false, cond}
+use lib.Pow.{pow-add, pow_mono, shl_lt}
 use lib.Dec.{T}
-use lib.Pow.{pow-add, pow_pos, pow_mono, shl_lt}
-use lib.Ieee.{Float, nan, inf, fin, binary64, down, size, units, odd, to_bits, of_bits, nan_bits}
+use lib.Ieee.{Float, nan, inf, fin, binary64, down, fits, size, units, odd, to_bits}
 use lib.Ieee.Digits.{size-lt, size-le}
-use lib.Ieee.Exact.{HasValue, odd_sign}
+use lib.Ieee.Exact.{HasValue}
 use lib.Ieee.Fits.{odd-fits, down_pos}
-use lib.Ieee.Bits.{of_bits-to_bits}
 use borrow.Author.Tests.{lt-ltb}
 use Rattle.float.proofs.Order.{clash}
-use Rattle.float.proofs.Patterns.{not_nan_field}
 use Rattle.float.specs.Root.{nearest_root, root_of}
 use Rattle.float.proofs.RootWhole.{Near, nearest_near}
 
@@ -89,7 +87,7 @@ module _ (c : ℕ) (lo : 2 ^ 52 ≤ c) (hi : c ≤ 2 ^ 54 - 2) where
   pub root_hi : nearest_root (c * 2 ^ 52) < 2 ^ 53
   root_hi = digits_hi (nearest_root (c * 2 ^ 52)) near
 
--- ---- the bits of q * 2^h units
+-- ---- the bits of n units, and q * 2^h units
 pub bits_of : (x : Float) (n : ℕ) → HasValue x false n (2 ^ 1074) → to_bits binary64 x ≡ (size n - 53) * 2 ^ 52 + n / 2 ^ (size n - 53)
 unfolding to_bits
 bits_of nan n v = absurd v
@@ -99,7 +97,7 @@ bits_of (fin false m e) n v =
     ap (λ (z : ℕ). 0 + (size z - 53) * 2 ^ 52 + z / 2 ^ (size z - 53)) (ap (λ (z : ℕ). z / down e) v.1 ∙ mul-div_cancel n (down_pos e))
     ∙ ap (λ (z : ℕ). z + n / 2 ^ (size n - 53)) (zero-add ((size n - 53) * 2 ^ 52))
 
-module _ (q h : ℕ) (lo : 2 ^ 52 ≤ q) (hi : q < 2 ^ 53) (H : h ≤ 1534) where
+module _ (q h : ℕ) (hi : q < 2 ^ 53) (H : h ≤ 1534) where
   pub within : q * 2 ^ h < 2 ^ (1074 + 1024)
   within = lt_of_lt_of_le (shl_lt 53 h hi) (pow_mono {i = 53 + h} {j = 1074 + 1024} (omega arith))
 
@@ -107,40 +105,5 @@ module _ (q h : ℕ) (lo : 2 ^ 52 ≤ q) (hi : q < 2 ^ 53) (H : h ≤ 1534) wher
   unfolding units
   units_odd = ap (λ (b : Bool). cond b (odd 54 false q h 1074) (inf false)) (lt-ltb (q * 2 ^ h) (2 ^ (1074 + 1024)) within)
 
-  drops : size (q * 2 ^ h) - 53 ≡ h
-  drops = omega (arith, size_shifted q h lo hi)
-
-  odd_bits : to_bits binary64 (odd 54 false q h 1074) ≡ h * 2 ^ 52 + q
-  odd_bits =
-      bits_of (odd 54 false q h 1074) (q * 2 ^ h) (odd_sign 54 false q h 1074)
-      ∙ ap (λ (z : ℕ). z * 2 ^ 52 + q * 2 ^ h / 2 ^ z) drops
-      ∙ ap (λ (z : ℕ). h * 2 ^ 52 + z) (mul-div_cancel q (pow_pos h))
-
-  pub units_read : of_bits binary64 (h * 2 ^ 52 + q) ≡ units binary64 false q h
-  units_read =
-      ap (λ (b : ℕ). of_bits binary64 b) (sym odd_bits)
-      ∙ of_bits-to_bits binary64 (odd 54 false q h 1074) (odd-fits binary64 54 false q h (omega arith) (omega arith) within)
-      ∙ sym units_odd
-
-  pub units_no_nan : T (not (nan_bits binary64 (h * 2 ^ 52 + q)))
-  units_no_nan = not_nan_field (h * 2 ^ 52 + q) (λ (g : (h * 2 ^ 52 + q) % 0x8000_0000_0000_0000 / 0x10_0000_0000_0000 ≡ 2047). omega arith)
-
--- ---- what the code makes: q for c or 2c, at half of the exponent
-module _ (c j q : ℕ) (lo : 2 ^ 52 ≤ c) (hi : c < 2 ^ 53) (J : 52 ≤ j) (U : j ≤ 3119) (is : q ≡ nearest_root (c * (1 + j % 2) * 2 ^ 52)) where
-  one_or_two : j % 2 < 2
-  one_or_two = omega arith
-
-  pub made_lo : 2 ^ 52 ≤ q
-  made_lo = subst (λ (z : ℕ). 2 ^ 52 ≤ z) (sym is) (root_lo (c * (1 + j % 2)) (even_lo c 0 lo hi (j % 2) one_or_two) (even_hi c 0 lo hi (j % 2) one_or_two))
-
-  pub made_hi : q < 2 ^ 53
-  made_hi = subst (λ (z : ℕ). z < 2 ^ 53) (sym is) (root_hi (c * (1 + j % 2)) (even_lo c 0 lo hi (j % 2) one_or_two) (even_hi c 0 lo hi (j % 2) one_or_two))
-
-  pub made_no_nan : T (not (nan_bits binary64 ((j - 52) / 2 * 2 ^ 52 + q)))
-  made_no_nan = units_no_nan q ((j - 52) / 2) made_lo made_hi (omega arith)
-
-  pub made_root : of_bits binary64 ((j - 52) / 2 * 2 ^ 52 + q) ≡ root_of (c * 2 ^ j)
-  made_root =
-      units_read q ((j - 52) / 2) made_lo made_hi (omega arith)
-      ∙ ap (λ (z : ℕ). units binary64 false z ((j - 52) / 2)) is
-      ∙ sym (root_scaled c ((j - 52) / 2) lo hi (j % 2) j one_or_two (omega arith))
+  pub units_held : T (fits binary64 (units binary64 false q h))
+  units_held = rw units_odd (odd-fits binary64 54 false q h (omega arith) (omega arith) within)

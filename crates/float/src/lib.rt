@@ -1,9 +1,8 @@
-// The float calls that Rattle lacks (rules F3 to F9): the infinity, `abs`, `min`, `max`, `total_cmp`, `sqrt`, and whether a number is a binary32.
+// The float calls that Rattle lacks (rules F3 to F9): the infinity, `abs`, `min`, `max`, `total_cmp`, and whether a number is a binary32; and its square root.
 // Each answers on every f64. The laws of the order and of rounding, which the other layers cite, stand in proofs/.
 #![tactic(auto)]
 
 mod single; // single.rt: which numbers are exactly a binary32
-mod square_root; // square_root.rt: the square root
 
 ghost use Rattle.std.specs.Prelude.{◌≡◌};
 ghost use Rattle.std.specs.Float.{binary64};
@@ -11,9 +10,9 @@ ghost use Rattle.std.specs.Float.Ieee.{to_bits, of_bits};
 ghost use Rattle.float.specs.Number.{infinity};
 ghost use Rattle.float.specs.Pick.{magnitude, lesser, greater, lower, higher};
 ghost use Rattle.float.specs.Total.{total_less, less_number, minus_zero};
+ghost use Rattle.float.specs.Root.{root};
 
 pub use single::is_single;
-pub use square_root::root;
 
 // 2^40, the limit of vertices, of a ray's origin and of boxes.
 pub const TWO_TO_40: f64 = 1099511627776.0;
@@ -112,4 +111,13 @@ pub fn from_bits(pattern: u64) -> f64
         return f64::NAN;
     }
     f64::from_bits(pattern)
+}
+
+// The square root of x (rule F8). Of a zero and of +inf it is x itself; of a NaN, and of whatever is below zero, a NaN.
+// It is the hardware's operation, proved equal to the rule on every f64 (proofs/RootRounded.antt: `sqrt_is`).
+#[tactic(auto, using(crate::proofs::RootRounded::sqrt_is))]
+pub fn root(x: f64) -> f64
+    ensures { result ≡ root x }
+{
+    x.sqrt()
 }
