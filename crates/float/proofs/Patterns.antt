@@ -1,9 +1,9 @@
 -- Which bit patterns are a NaN's, as code tests for them: the exponent's field is all ones and the digits are not 0. Assumes nothing.
-use mathlib.Core.Path.{◌≡◌, refl, sym, ◌∙◌}
+use mathlib.Core.Path.{◌≡◌, refl}
 use Prim.Native.Nat.{ℕ, ◌/◌, ◌%◌}
 use mathlib.Core.Bool.{Bool, true, false, not, ◌&&◌}
 use lib.Dec.{T, leb, eqb}
-use lib.Ieee.{Float, nan, inf, fin, binary64, div, ne, is_nan, of_bits, of_fields, to_bits, nan_bits, hid, ones, top}
+use lib.Ieee.{Float, nan, inf, fin, binary64, div, is_nan, of_bits, of_fields, to_bits, nan_bits, hid, ones, top}
 use borrow.Author.Tests.{eq-eqb, ne_eqb}
 use Rattle.float.proofs.Order.{clash}
 

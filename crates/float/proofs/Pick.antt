@@ -1,10 +1,9 @@
 -- `lesser` and `greater` are bounds of what they pick from and keep its order, as each is a choice by one comparison; and code tells a NaN by its differing from itself.
 -- Assumes nothing.
 use mathlib.Core.Path.{◌≡◌, refl}
-use mathlib.Core.Bool.{Bool, true, false, not, ◌&&◌, ◌||◌, cond}
-use Prim.Native.Nat.{◌*◌}
-use lib.Dec.{T, eqb, eqb_refl}
-use lib.Ieee.{Float, nan, inf, fin, up, down, lt, le, ne, is_nan}
+use mathlib.Core.Bool.{Bool, true, false, not, ◌||◌, cond}
+use lib.Dec.{T}
+use lib.Ieee.{Float, nan, inf, fin, lt, le, is_nan}
 use Rattle.float.specs.Number.{real}
 use Rattle.float.proofs.Cases.{not_l}
 use Rattle.float.proofs.Order.{lt→le, le→real_l, le→real_r, not_lt→le, le_refl, le_trans}

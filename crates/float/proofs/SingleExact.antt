@@ -8,7 +8,7 @@ use lib.Dec.{T, leb, eqb, eqb→eq}
 use borrow.Author.Tests.{leb-true, leb-false}
 use lib.Arith.{le→nltb}
 use lib.Pow.{pow_mono, shr_lt}
-use lib.Ieee.{Float, binary32, binary64, of_bits, to_bits, nan_bits, fits, is_nan, ne}
+use lib.Ieee.{Float, binary32, binary64, of_bits, to_bits, nan_bits, fits, is_nan}
 use lib.Ieee.Bits.{is_true, nan_bits_is, nan_bits_above, of_bits-to_bits, of_bits-fits, to_bits-lt}
 use lib.Ieee.Fits.{and_l, and_i, eq→eqb, fits_widens}
 use Rattle.float.specs.Single.{exactly32}

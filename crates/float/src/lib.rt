@@ -1,4 +1,5 @@
-// The float calls that Rattle lacks (rules F3 to F9): the infinity, `abs`, `min`, `max`, `total_cmp`, and whether a number is a binary32; and its square root.
+// The float calls as the documents fix them (rules F3 to F9): the infinity, `abs`, `min`, `max` and `total_cmp`, which document 01 has worked out by the program,
+// the square root, and whether a number is a binary32.
 // Each answers on every f64. The laws of the order and of rounding, which the other layers cite, stand in proofs/.
 #![tactic(auto)]
 
