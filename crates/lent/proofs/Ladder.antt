@@ -84,6 +84,16 @@ both_passed checks others p = go (first_failed checks) refl (sym (further checks
     go none e q = (e, q)
     go (numbered number at) e q = apart number at (sym q)
 
+-- so the call answers by the other's, or by the checks that are left
+module _ {A : Type 0} (checks others : List Check) (refused : ℕ → ℕ → A) (served : A) where
+  pub refused_before : {number at : ℕ} → first_failed checks ≡ numbered number at → unless (checks ++ others) refused served ≡ refused number at
+  unfolding unless answered
+  refused_before p = ap (λ (r : Refusal). answered r refused served) (further checks others ∙ ap (λ (r : Refusal). answered r numbered (first_failed others)) p)
+
+  pub passed_before : first_failed checks ≡ none → unless (checks ++ others) refused served ≡ unless others refused served
+  unfolding unless answered
+  passed_before p = ap (λ (r : Refusal). answered r refused served) (further checks others ∙ ap (λ (r : Refusal). answered r numbered (first_failed others)) p)
+
 -- ---- what the tests of code say of those of a check
 pub differ : {a b : ℕ} → (a ≡ b → ⊥) → not (eqb a b) ≡ true
 differ {a} {b} n = ap not (ne_eqb a b n)

@@ -42,6 +42,10 @@ ragged mesh = check (not (eqb (length mesh % 12) 0)) 1 0
 abbrev pub crowded : List Float → Check
 crowded mesh = check (ltb most_triangles (triangle_count mesh)) 2 (triangle_count mesh)
 
+-- of a mesh alone
+abbrev pub mesh_checks : List Float → List Check
+mesh_checks mesh = ragged mesh ∷ crowded mesh ∷ []
+
 -- Refusal 18: another number of materials, where they are lent beside it
 abbrev pub unlabelled : List Float → List ℕ → Check
 unlabelled mesh materials = check (not (eqb (length materials) (triangle_count mesh))) 18 0

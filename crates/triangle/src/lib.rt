@@ -5,13 +5,16 @@
 
 mod normals; // normals.rt: Triangle::new, and the call that refills a mesh
 
-ghost use Rattle.std.specs.Prelude.{◌≡◌, ◌+◌, ◌/◌, ◌<◌, ◌≤◌, length};
+ghost use Rattle.std.specs.Prelude.{◌≡◌, ◌+◌, ◌/◌, ◌<◌, ◌≤◌, length, IfOk};
+ghost use Rattle.lent.specs.Ladder.{triangle_count, mesh_checks, first_failed};
+ghost use Rattle.lent.specs.Refusals.{refusal_of};
 ghost use Rattle.float.specs.Number.{three};
 ghost use Rattle.aabb.specs.Vector.{vector_at, plus, divided};
 ghost use Rattle.triangle.specs.Mesh.{triangle_at, corners_of, bounds_of, centroid_of, admitted_triangle, first_refused};
 ghost use Rattle.triangle.specs.Meeting.{crossing_of, judged, distance_to, distance, hit_at, strike};
 
 use aabb::{Aabb, Ray, Vec3};
+use lent::{Reason, Refused};
 pub use normals::refill_normals;
 
 #[derive(Clone, Copy)]
@@ -226,6 +229,27 @@ impl Crossing {
         }
         Some(self.t)
     }
+}
+
+// How many triangles a mesh has. Refused: 1 its numbers are not in twelves; 2 it has more than 65,536 triangles (at: how many).
+pub fn count(mesh: &[f64]) -> Result<usize, Refused>
+    ensures refusal { refusal_of result ≡ first_failed (mesh_checks mesh.now) }
+    ensures count { IfOk result (λ n. n ≡ triangle_count mesh.now) }
+{
+    if mesh.len() % 12 != 0 {
+        return Err(Refused {
+            reason: Reason::Ragged,
+            at: 0,
+        });
+    }
+    let n = mesh.len() / 12;
+    if lent::MOST_TRIANGLES < n {
+        return Err(Refused {
+            reason: Reason::Crowded,
+            at: n,
+        });
+    }
+    Ok(n)
 }
 
 // Whether triangle i of a mesh is admitted; none beyond the mesh's end is.

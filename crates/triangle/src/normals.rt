@@ -49,19 +49,7 @@ fn direction(cross: Vec3) -> Vec3
 pub fn refill_normals(mesh: &mut [f64]) -> Result<(), Refused>
     ensures { outcome (refusal_of result) mesh.new ≡ refilled mesh.old }
 {
-    if mesh.len() % 12 != 0 {
-        return Err(Refused {
-            reason: Reason::Ragged,
-            at: 0,
-        });
-    }
-    let n = mesh.len() / 12;
-    if lent::MOST_TRIANGLES < n {
-        return Err(Refused {
-            reason: Reason::Crowded,
-            at: n,
-        });
-    }
+    let n = crate::count(mesh)?;
     if let Some(at) = crate::first_refused(mesh, n) {
         return Err(Refused {
             reason: Reason::BadTriangle,

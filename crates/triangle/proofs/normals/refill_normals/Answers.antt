@@ -1,25 +1,27 @@
 -- Each return is a step of the ladder, or the mesh that is filled. Assumes nothing.
 use mathlib.Core.Path.{refl, sym, ap, ◌∙◌}
-use Rattle.lent.proofs.Ladder.{ends, stops, goes, differ, agree, below, not_below}
+use Rattle.std.proofs.lemmas.Result.{err_from_is_err_and}
+use Rattle.lent.specs.Ladder.{none, mesh_checks}
+use Rattle.lent.proofs.Ladder.{ends, refused_before, passed_before}
+use Rattle.triangle.specs.Mesh.{first_refused}
 use Rattle.triangle.specs.Refilled.{outcome, refilled}
-use Rattle.lent.specs.Ladder.{none}
 use Rattle.triangle.proofs.Admitting.{bad_at, none_bad}
 use Rattle.triangle.proofs.normals.refill_normals.Goals as goal
 
-pub returns-then-mesh-ne0 : goal.returns-then-mesh-ne0
+pub returns-in_err-n : goal.returns-in_err-n
 unfolding refilled
-returns-then-mesh-ne0 c = ends (stops (differ c.if-mesh-ne0.true) refl)
-
-pub returns-then-n-gt-MOST_TRIANGLES : goal.returns-then-n-gt-MOST_TRIANGLES
-unfolding refilled
-returns-then-n-gt-MOST_TRIANGLES c = ends (goes (agree c.if-mesh-ne0.false) (stops (below c.if-n-gt-MOST_TRIANGLES.true) refl))
+returns-in_err-n c =
+    let p = err_from_is_err_and c.from_residual.result c.from_residual.ensures.1 in
+    rw (p.1, p.2) (sym (refused_before (mesh_checks c.args.mesh.now) _ _ _ (sym c.in_err-n.ensures.refusal)))
 
 pub returns-in-Some : goal.returns-in-Some
 unfolding refilled
 returns-in-Some c =
-    ends (goes (agree c.if-mesh-ne0.false) (goes (not_below c.if-n-gt-MOST_TRIANGLES.false) (bad_at (sym c.first_refused.ensures ∙ c.in-Some.is) refl)))
+    let ok = c.in_ok-n.ensures in
+    ends (bad_at (sym (c.first_refused.ensures ∙ ap (λ n. first_refused c.args.mesh.now 0 n) ok.count) ∙ c.in-Some.is) refl) ∙ sym (passed_before (mesh_checks c.args.mesh.now) _ _ _ (sym ok.refusal))
 
 pub returns : goal.returns
 unfolding refilled
 returns c =
-    ends (goes (agree c.if-mesh-ne0.false) (goes (not_below c.if-n-gt-MOST_TRIANGLES.false) (none_bad (sym c.first_refused.ensures ∙ c.in_default.is) (ap (outcome none) c.fill.ensures))))
+    let ok = c.in_ok-n.ensures in
+    ends (none_bad (sym (c.first_refused.ensures ∙ ap (λ n. first_refused c.args.mesh.now 0 n) ok.count) ∙ c.in_default.is) (ap (outcome none) c.fill.ensures)) ∙ sym (passed_before (mesh_checks c.args.mesh.now) _ _ _ (sym ok.refusal))
