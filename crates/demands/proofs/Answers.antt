@@ -1,53 +1,27 @@
 -- The numbers that an answer tells fix the answer, by its cases. Assumes nothing.
-use mathlib.Core.Path.{◌≡◌, refl, sym, ap}
+use mathlib.Core.Path.{◌≡◌, refl, sym, ap, ◌∙◌}
+use Prim.Native.Nat.{ℕ}
+use Rattle.std.specs.Prelude.{Result, Ok, Err}
+use Rattle.lent.specs.Ladder.{Refusal}
+use Rattle.lent.specs.Refusals.{number}
+use Rattle.lent.specs.declared.refusal.Refused.{Refused}
 use Rattle.lent.proofs.Ladder.{apart}
-use Rattle.triangle.specs.declared.normals.Refill.{Refill}
-use Rattle.triangle.specs.declared.normals.Refill.TheVariants.{Done, Refused as Unrefilled}
-use Rattle.triangle.specs.Refilled.{refill_refusal}
+use Rattle.lent.proofs.Refusals.{refused_is}
 use Rattle.builder.specs.declared.Built.{Built}
-use Rattle.builder.specs.declared.Built.TheVariants.{Tree, Refused}
 use Rattle.builder.specs.Reply.{Reply, reply}
-use Rattle.sky.specs.declared.Filled.{Filled}
-use Rattle.sky.specs.declared.Filled.TheVariants.{Places, Refused as Unfilled}
-use Rattle.sky.specs.Sky.{sky_refusal}
-use Rattle.accept.specs.declared.Verdict.{Verdict}
-use Rattle.accept.specs.declared.Verdict.TheVariants.{Accepted, Refused as Unaccepted}
 use Rattle.accept.specs.Accept.{Ruling, ruling}
-use Rattle.stl.specs.declared.Answer.{Answer as Transfer}
-use Rattle.stl.specs.declared.Answer.TheVariants.{Done as Moved, Refused as Unmoved}
 use Rattle.stl.specs.Answers.{Told, told}
 
-pub refill_told : (a b : Refill) → refill_refusal a ≡ refill_refusal b → a ≡ b
-unfolding refill_refusal
-refill_told Done Done e = refl
-refill_told (Unrefilled k i) (Unrefilled l j) e = cc
-refill_told Done (Unrefilled l j) e = apart l j e
-refill_told (Unrefilled k i) Done e = apart k i (sym e)
-
-pub sky_told : (a b : Filled) → sky_refusal a ≡ sky_refusal b → a ≡ b
-unfolding sky_refusal
-sky_told Places Places e = refl
-sky_told (Unfilled k i) (Unfilled l j) e = cc
-sky_told Places (Unfilled l j) e = apart l j e
-sky_told (Unfilled k i) Places e = apart k i (sym e)
-
-pub build_told : (a b : Built) → reply a ≡ reply b → a ≡ b
+pub build_told : (a b : Result Built Refused) → reply a ≡ reply b → a ≡ b
 unfolding reply
-build_told (Tree n l) (Tree m k) e = cc (ap (λ (r : Reply). r.nodes) e, ap (λ (r : Reply). r.leaves) e)
-build_told (Refused k i) (Refused l j) e = cc (ap (λ (r : Reply). r.refusal) e)
-build_told (Tree n l) (Refused k i) e = apart k i (ap (λ (r : Reply). r.refusal) e)
-build_told (Refused k i) (Tree n l) e = apart k i (ap (λ (r : Reply). r.refusal) (sym e))
+build_told (Ok a) (Ok b) e = λ i. Ok (record { nodes = (e i).nodes; leaves = (e i).leaves })
+build_told (Err r) (Err s) e = ap Err (refused_is r s (ap (λ (t : Reply). t.refusal) e))
+build_told (Ok a) (Err s) e = apart (number s.reason) s.at (ap (λ (t : Reply). t.refusal) e)
+build_told (Err r) (Ok b) e = apart (number r.reason) r.at (ap (λ (t : Reply). t.refusal) (sym e))
 
-pub accept_told : (a b : Verdict) → ruling a ≡ ruling b → a ≡ b
-unfolding ruling
-accept_told Accepted Accepted e = refl
-accept_told (Unaccepted n k i) (Unaccepted m l j) e = cc (ap (λ (r : Ruling). r.refusal) e, ap (λ (r : Ruling). r.condition) e)
-accept_told Accepted (Unaccepted m l j) e = apart m j (ap (λ (r : Ruling). r.refusal) e)
-accept_told (Unaccepted n k i) Accepted e = apart n i (ap (λ (r : Ruling). r.refusal) (sym e))
-
-pub stl_told_lem : (a b : Transfer) → told a ≡ told b → a ≡ b
+pub stl_told_lem : (a b : Result ℕ Refused) → told a ≡ told b → a ≡ b
 unfolding told
-stl_told_lem (Moved n) (Moved m) e = cc (ap (λ (r : Told). r.count) e)
-stl_told_lem (Unmoved k i) (Unmoved l j) e = cc (ap (λ (r : Told). r.refusal) e)
-stl_told_lem (Moved n) (Unmoved k i) e = apart k i (ap (λ (r : Told). r.refusal) e)
-stl_told_lem (Unmoved k i) (Moved n) e = apart k i (ap (λ (r : Told). r.refusal) (sym e))
+stl_told_lem (Ok n) (Ok m) e = λ i. Ok (e i).count
+stl_told_lem (Err r) (Err s) e = ap Err (refused_is r s (ap (λ (t : Told). t.refusal) e))
+stl_told_lem (Ok n) (Err s) e = apart (number s.reason) s.at (ap (λ (t : Told). t.refusal) e)
+stl_told_lem (Err r) (Ok m) e = apart (number r.reason) r.at (ap (λ (t : Told). t.refusal) (sym e))

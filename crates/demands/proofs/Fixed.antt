@@ -7,24 +7,25 @@ use mathlib.Core.List.{List}
 use lib.Ieee.{Float}
 use Rattle.lent.specs.Fixed.{Fixes, FixesAll}
 use Rattle.lent.proofs.Fixed.{fixed}
-use Rattle.triangle.specs.declared.normals.Refill.{Refill}
-use Rattle.triangle.specs.Refilled.{refill_refusal, Outcome as Refilling, outcome as refilling}
+use Rattle.std.specs.Prelude.{Result, Ok, Err, IfOk}
+use Rattle.lent.specs.Refusals.{number, refusal_of}
+use Rattle.lent.specs.declared.refusal.Refused.{Refused as Why}
+use Rattle.lent.proofs.Refusals.{refused_is, answer_is}
+use Rattle.triangle.specs.Refilled.{Outcome as Refilling, outcome as refilling}
 use Rattle.builder.specs.declared.Built.{Built}
 use Rattle.builder.specs.Reply.{reply}
 use Rattle.builder.specs.Build.{Outcome, outcome}
 use Rattle.walk.specs.declared.Answer.{Answer}
 use Rattle.walk.specs.declared.Answer.TheVariants.{Struck, Missed, Refused}
 use Rattle.walk.specs.Answer.{Told, told}
-use Rattle.sky.specs.declared.Filled.{Filled}
 use Rattle.accept.specs.declared.Verdict.{Verdict}
 use Rattle.accept.specs.Accept.{ruling, Outcome as Judging, outcome as judging}
-use Rattle.sky.specs.Sky.{sky_refusal, Filling, filling}
+use Rattle.sky.specs.Sky.{Filling, filling}
 use Rattle.street.specs.Making.{Outcome as Making, outcome as making}
-use Rattle.watts.specs.declared.Counted.{Counted}
+use Rattle.watts.specs.declared.Report.{Report}
 use Rattle.watts.specs.Watts.{Outcome as Weighing}
-use Rattle.stl.specs.declared.Answer.{Answer as Transfer}
 use Rattle.stl.specs.Answers.{told as stl_told, Read, read_as, Written, written_as}
-use Rattle.demands.proofs.Answers.{refill_told, build_told, sky_told, accept_told, stl_told_lem}
+use Rattle.demands.proofs.Answers.{build_told, accept_told, stl_told_lem}
 use Rattle.float.proofs.infinity.Reads as float_infinity
 use Rattle.float.proofs.magnitude.Reads as float_magnitude
 use Rattle.float.proofs.lesser.Reads as float_lesser
@@ -102,7 +103,6 @@ use Rattle.tree.proofs.word.Reads as tree_word
 use Rattle.triangle.proofs.refill_normals.Reads as triangle_refill_normals
 use Rattle.builder.proofs.build.Reads as builder_build
 use Rattle.builder.proofs.room.Reads as builder_room
-use Rattle.builder.proofs.clear_floats.Reads as builder_clear_floats
 use Rattle.walk.proofs.walk.Reads as walk_walk
 use Rattle.sky.proofs.judge.Reads as sky_judge
 use Rattle.sky.proofs.sky.Reads as sky_sky
@@ -136,51 +136,52 @@ triangle_fixed = (fixed, fixed, fixed, fixed, fixed, fixed, fixed, fixed, fixed,
 pub tree_fixed : Fixes node_read.Post × Fixes node_sound.Post × Fixes node_left.Post × Fixes node_right.Post × Fixes tree_misfit.Post × Fixes tree_word.Post
 tree_fixed = (fixed, fixed, fixed, fixed, fixed, fixed)
 
--- the answer, and the mesh at the end
-refill_same : (a b : Refill) (x y : List Float) → refilling (refill_refusal a) x ≡ refilling (refill_refusal b) y → ◌≡◌ {A = Refill × List Float} (a, x) (b, y)
-refill_same a b x y e = let t = refill_told a b (ap (λ (o : Refilling). o.refusal) e) in λ z. (t z, (e z).mesh)
+-- a call that answers nothing, or why it is refused
+abbrev Done : Type 0
+Done = Result (Unit {0}) Why
 
-pub refill_normals_fixed : FixesAll triangle_refill_normals.Post {C = Refill × List Float} (λ κs r e. (r, e.0.now))
+-- the answer, and the mesh at the end
+refill_same : (a b : Done) (x y : List Float) → refilling (refusal_of a) x ≡ refilling (refusal_of b) y → ◌≡◌ {A = Done × List Float} (a, x) (b, y)
+refill_same a b x y e = let t = answer_is a b (ap (λ (o : Refilling). o.refusal) e) in λ z. (t z, (e z).mesh)
+
+pub refill_normals_fixed : FixesAll triangle_refill_normals.Post {C = Done × List Float} (λ κs r e. (r, e.0.now))
 refill_normals_fixed κs x r r' e e' p q = refill_same r r' _ _ (p ∙ sym q)
 
 -- the answer, and the index list, boxes and links at the end
-build_same : (a b : Built) (i j : List ℕ) (x y : List Float) (k l : List ℕ) → outcome (reply a) i x k ≡ outcome (reply b) j y l → ◌≡◌ {A = Built × List ℕ × List Float × List ℕ} (a, i, x, k) (b, j, y, l)
+build_same : (a b : Result Built Why) (i j : List ℕ) (x y : List Float) (k l : List ℕ) → outcome (reply a) i x k ≡ outcome (reply b) j y l → ◌≡◌ {A = Result Built Why × List ℕ × List Float × List ℕ} (a, i, x, k) (b, j, y, l)
 build_same a b i j x y k l e = let t = build_told a b (ap (λ (o : Outcome). o.answer) e) in λ z. (t z, (e z).index, (e z).boxes, (e z).links)
 
-pub build_fixed : FixesAll builder_build.Post {C = Built × List ℕ × List Float × List ℕ} (λ κs r e. (r, e.1.0.now, e.1.1.0.now, e.1.1.1.0.now))
+pub build_fixed : FixesAll builder_build.Post {C = Result Built Why × List ℕ × List Float × List ℕ} (λ κs r e. (r, e.1.0.now, e.1.1.0.now, e.1.1.1.0.now))
 build_fixed κs x r r' e e' p q = build_same r r' _ _ _ _ _ _ (p ∙ sym q)
 
--- the builder's room, and what it leaves of a list that it clears
+-- the builder's room
 pub room_fixed : Fixes builder_room.Post
 room_fixed = fixed
-
-pub clear_fixed : FixesAll builder_clear_floats.Post {C = List Float} (λ κs r e. e.0.now)
-clear_fixed κs x r r' e e' p q = p ∙ sym q
 
 -- `walk` writes nothing lent, and what an answer tells fixes the answer
 told_fixes : (a a' : Answer) → told a ≡ told a' → a ≡ a'
 unfolding told
 told_fixes (Struck h b c) (Struck h' b' c') p = cc (ap (λ (t : Told). t.hit) p, ap (λ (t : Told). t.boxes) p, ap (λ (t : Told). t.triangles) p)
 told_fixes (Missed b c) (Missed b' c') p = cc (ap (λ (t : Told). t.boxes) p, ap (λ (t : Told). t.triangles) p)
-told_fixes (Refused k i) (Refused k' i') p = cc (ap (λ (t : Told). t.refusal) p)
+told_fixes (Refused w) (Refused w') p = ap Refused (refused_is w w' (ap (λ (t : Told). t.refusal) p))
 told_fixes (Struck h b c) (Missed b' c') p = absurd (let e = ap (λ (t : Told). t.hit) p in let z : ◌≡◌ {A = ℕ} 0 1 = cc in omega arith)
 told_fixes (Missed b c) (Struck h' b' c') p = absurd (let e = ap (λ (t : Told). t.hit) p in let z : ◌≡◌ {A = ℕ} 0 1 = cc in omega arith)
-told_fixes (Struck h b c) (Refused k' i') p = absurd (let e = ap (λ (t : Told). t.refusal) p in let z : ◌≡◌ {A = ℕ} 0 1 = cc in omega arith)
-told_fixes (Refused k i) (Struck h' b' c') p = absurd (let e = ap (λ (t : Told). t.refusal) p in let z : ◌≡◌ {A = ℕ} 0 1 = cc in omega arith)
-told_fixes (Missed b c) (Refused k' i') p = absurd (let e = ap (λ (t : Told). t.refusal) p in let z : ◌≡◌ {A = ℕ} 0 1 = cc in omega arith)
-told_fixes (Refused k i) (Missed b' c') p = absurd (let e = ap (λ (t : Told). t.refusal) p in let z : ◌≡◌ {A = ℕ} 0 1 = cc in omega arith)
+told_fixes (Struck h b c) (Refused w') p = absurd (let e = ap (λ (t : Told). t.refusal) p in let z : ◌≡◌ {A = ℕ} 0 1 = cc in omega arith)
+told_fixes (Refused w) (Struck h' b' c') p = absurd (let e = ap (λ (t : Told). t.refusal) p in let z : ◌≡◌ {A = ℕ} 0 1 = cc in omega arith)
+told_fixes (Missed b c) (Refused w') p = absurd (let e = ap (λ (t : Told). t.refusal) p in let z : ◌≡◌ {A = ℕ} 0 1 = cc in omega arith)
+told_fixes (Refused w) (Missed b' c') p = absurd (let e = ap (λ (t : Told). t.refusal) p in let z : ◌≡◌ {A = ℕ} 0 1 = cc in omega arith)
 
 pub walk_fixed : Fixes walk_walk.Post
 walk_fixed = record { same = λ κs x r r' e e' p q. told_fixes r r' (p ∙ sym q) }
 
 pub judge_fixed : Fixes sky_judge.Post
-judge_fixed = record { same = λ κs x r r' e e' p q. sky_told r r' (p ∙ sym q) }
+judge_fixed = record { same = λ κs x r r' e e' p q. answer_is r r' (p ∙ sym q) }
 
 -- the answer, and the answer room at the end
-sky_same : (a b : Filled) (x y : List Float) (k l : List ℕ) → filling (sky_refusal a) x k ≡ filling (sky_refusal b) y l → ◌≡◌ {A = Filled × List Float × List ℕ} (a, x, k) (b, y, l)
-sky_same a b x y k l e = let t = sky_told a b (ap (λ (o : Filling). o.refusal) e) in λ z. (t z, (e z).times, (e z).told)
+sky_same : (a b : Done) (x y : List Float) (k l : List ℕ) → filling (refusal_of a) x k ≡ filling (refusal_of b) y l → ◌≡◌ {A = Done × List Float × List ℕ} (a, x, k) (b, y, l)
+sky_same a b x y k l e = let t = answer_is a b (ap (λ (o : Filling). o.refusal) e) in λ z. (t z, (e z).times, (e z).told)
 
-pub sky_fixed : FixesAll sky_sky.Post {C = Filled × List Float × List ℕ} (λ κs r e. (r, e.1.1.1.1.1.1.0.now, e.1.1.1.1.1.1.1.0.now))
+pub sky_fixed : FixesAll sky_sky.Post {C = Done × List Float × List ℕ} (λ κs r e. (r, e.1.1.0.now, e.1.1.1.0.now))
 sky_fixed κs x r r' e e' p q = sky_same r r' _ _ _ _ (p ∙ sym q)
 
 -- the calls of `street`, but for `make`
@@ -188,18 +189,18 @@ pub rows_fixed : Fixes matrix_read.Post × Fixes matrix_good.Post × Fixes matri
 rows_fixed = (fixed, fixed, fixed, fixed, fixed, fixed, fixed)
 
 -- the answer, and the proxies, index list, boxes and links at the end
-make_same : (a b : Built) (i j : List ℕ) (x y : List Float) (k l : List ℕ) (p q : List Float) → making (outcome (reply a) i x k) p ≡ making (outcome (reply b) j y l) q
-    → ◌≡◌ {A = Built × List Float × List ℕ × List Float × List ℕ} (a, p, i, x, k) (b, q, j, y, l)
+make_same : (a b : Result Built Why) (i j : List ℕ) (x y : List Float) (k l : List ℕ) (p q : List Float) → making (outcome (reply a) i x k) p ≡ making (outcome (reply b) j y l) q
+    → ◌≡◌ {A = Result Built Why × List Float × List ℕ × List Float × List ℕ} (a, p, i, x, k) (b, q, j, y, l)
 make_same a b i j x y k l p q e = let t = build_told a b (ap (λ (o : Making). o.tree.answer) e) in λ z. (t z, (e z).room, (e z).tree.index, (e z).tree.boxes, (e z).tree.links)
 
-pub make_fixed : FixesAll street_make.Post {C = Built × List Float × List ℕ × List Float × List ℕ} (λ κs r e. (r, e.1.1.1.0.now, e.1.1.1.1.0.now, e.1.1.1.1.1.0.now, e.1.1.1.1.1.1.0.now))
+pub make_fixed : FixesAll street_make.Post {C = Result Built Why × List Float × List ℕ × List Float × List ℕ} (λ κs r e. (r, e.1.1.1.0.now, e.1.1.1.1.0.now, e.1.1.1.1.1.0.now, e.1.1.1.1.1.1.0.now))
 make_fixed κs x r r' e e' p q = make_same r r' _ _ _ _ _ _ _ _ (p ∙ sym q)
 
 pub share_fixed : Fixes watts_share.Post
 share_fixed = fixed
 
 -- the answer, and the answer room at the end
-pub watts_fixed : FixesAll watts_watts.Post {C = Counted × List Float × List ℕ} (λ κs r e. (r, e.1.1.1.1.1.1.1.0.now, e.1.1.1.1.1.1.1.1.0.now))
+pub watts_fixed : FixesAll watts_watts.Post {C = Result Report Why × List Float × List ℕ} (λ κs r e. (r, e.1.1.1.0.now, e.1.1.1.1.0.now))
 watts_fixed κs x r r' e e' p q = ap (λ (o : Weighing). (o.answer, o.times, o.told)) (p ∙ sym q)
 
 -- the answer, and the work room at the end
@@ -210,15 +211,15 @@ pub accept_fixed : FixesAll accept_accept.Post {C = Verdict × List ℕ} (λ κs
 accept_fixed κs x r r' e e' p q = accept_same r r' _ _ (p ∙ sym q)
 
 -- the answer, and the triangle and material rooms at the end
-read_same : (a b : Transfer) (x y : List Float) (k l : List ℕ) → read_as (stl_told a) x k ≡ read_as (stl_told b) y l → ◌≡◌ {A = Transfer × List Float × List ℕ} (a, x, k) (b, y, l)
+read_same : (a b : Result ℕ Why) (x y : List Float) (k l : List ℕ) → read_as (stl_told a) x k ≡ read_as (stl_told b) y l → ◌≡◌ {A = Result ℕ Why × List Float × List ℕ} (a, x, k) (b, y, l)
 read_same a b x y k l e = let t = stl_told_lem a b (ap (λ (o : Read). o.answer) e) in λ z. (t z, (e z).triangles, (e z).materials)
 
-pub read_fixed : FixesAll stl_read.Post {C = Transfer × List Float × List ℕ} (λ κs r e. (r, e.1.0.now, e.1.1.0.now))
+pub read_fixed : FixesAll stl_read.Post {C = Result ℕ Why × List Float × List ℕ} (λ κs r e. (r, e.1.0.now, e.1.1.0.now))
 read_fixed κs x r r' e e' p q = read_same r r' _ _ _ _ (p ∙ sym q)
 
 -- the answer, and the file at the end
-write_same : (a b : Transfer) (k l : List ℕ) → written_as (stl_told a) k ≡ written_as (stl_told b) l → ◌≡◌ {A = Transfer × List ℕ} (a, k) (b, l)
+write_same : (a b : Result ℕ Why) (k l : List ℕ) → written_as (stl_told a) k ≡ written_as (stl_told b) l → ◌≡◌ {A = Result ℕ Why × List ℕ} (a, k) (b, l)
 write_same a b k l e = let t = stl_told_lem a b (ap (λ (o : Written). o.answer) e) in λ z. (t z, (e z).file)
 
-pub write_fixed : FixesAll stl_write.Post {C = Transfer × List ℕ} (λ κs r e. (r, e.1.0.now))
+pub write_fixed : FixesAll stl_write.Post {C = Result ℕ Why × List ℕ} (λ κs r e. (r, e.1.0.now))
 write_fixed κs x r r' e e' p q = write_same r r' _ _ (p ∙ sym q)

@@ -1,4 +1,5 @@
 -- Every mesh that reading gives is admitted: so a build of it is served, or refused for its room (3, 4) or the tree's depth (6). Assumes nothing.
+use Rattle.std.specs.Prelude.{None}
 use Prim.Native.Nat.{ℕ, ◌*◌, ◌/◌, ◌%◌, ◌≤◌}
 use mathlib.Core.Path.{◌≡◌, refl, ap, ◌∙◌}
 use mathlib.Core.Bool.{Bool, true, false, cond}
@@ -10,7 +11,6 @@ use lib.Ieee.{Float}
 use Rattle.lent.specs.Limits.{most_triangles, deepest}
 use Rattle.lent.specs.Ladder.{none, numbered, first_failed, answered, unless, triangle_count}
 use Rattle.lent.proofs.Ladder.{agree, not_below}
-use Rattle.triangle.specs.declared.Unadmitted.TheVariants.{Nothing}
 use Rattle.triangle.specs.Mesh.{first_refused, unadmitted}
 use Rattle.lent.specs.Permutation.{up_to}
 use Rattle.builder.specs.Tree.{Grown, grow}
@@ -37,7 +37,7 @@ module _ (n : ℕ) (index : List ℕ) (boxes : List Float) (links : List ℕ) wh
   by_room false false true r g = refl
   by_room false false false r g = done g
 
-module _ (mesh : List Float) (twelves : length mesh % 12 ≡ 0) (few : triangle_count mesh ≤ most_triangles) (fine : first_refused mesh 0 (triangle_count mesh) ≡ Nothing) where
+module _ (mesh : List Float) (twelves : length mesh % 12 ≡ 0) (few : triangle_count mesh ≤ most_triangles) (fine : first_refused mesh 0 (triangle_count mesh) ≡ None) where
   abbrev n : ℕ
   n = triangle_count mesh
 

@@ -1,5 +1,6 @@
 -- Inner nodes do not matter (rule G9): accepted trees with the same collection of leaves have the same hit and as many triangle tests. What a ray reaches is told by
 -- the leaves' boxes alone, and each triangle is reached at one place at most. Assumes nothing.
+use Rattle.std.specs.Prelude.{Option, Some, None}
 use mathlib.Core.Path.{◌≡◌, refl, sym, ap, subst, ◌∙◌}
 use mathlib.Core.Logic.{inl, inr, ⊎_elim}
 use mathlib.Core.Bool.{Bool, true, false, cond, ◌&&◌, ◌||◌, beq}
@@ -22,7 +23,7 @@ use Rattle.aabb.specs.Bounds.{bounded, is_empty, usable, contains}
 use Rattle.aabb.specs.Slab.{passes}
 use Rattle.aabb.proofs.Inside.{usable_inside}
 use Rattle.lent.specs.Ladder.{none, triangle_count}
-use Rattle.lent.specs.Members.{Every, Some, Member}
+use Rattle.lent.specs.Members.{Every, Any, Member}
 use Rattle.lent.specs.Permutation.{Perm, occurs, occ, up_to}
 use Rattle.lent.proofs.Permutation.{occurs_same, occurs_cases, occ_append, occ_at, up_below}
 use Rattle.tree.specs.Lent.{Mesh, Lent, Lists, Labelled, mesh_of, lists_of}
@@ -33,8 +34,6 @@ use Rattle.tree.specs.Leaves.{range_of, numbers, Leaf, leaves_of}
 use Rattle.tree.specs.Accepted.{Accepted}
 use Rattle.walk.specs.Answer.{Told}
 use Rattle.walk.specs.Walk.{walk}
-use Rattle.triangle.specs.declared.Found.{Found}
-use Rattle.triangle.specs.declared.Found.TheVariants.{At, Nothing}
 use Rattle.accept.specs.declared.Verdict.TheVariants.{Accepted as Fine}
 use Rattle.accept.proofs.accept.Reads as accept_call
 use Rattle.trusted.specs.Exactly.{Gives, Trusted}
@@ -121,15 +120,15 @@ alike_turned x y e = ((vectors_turned x.box.min y.box.min e.0.0, vectors_turned 
 member_others : (x y : Leaf) (a b : List Leaf) → Member x (a ++ b) → Member x (a ++ (y ∷ b))
 member_others x y a b h = ⊎_elim (λ i. some_left (λ z. x ≡ z) a (y ∷ b) i) (λ i. some_right (λ z. x ≡ z) a (y ∷ b) (inr i)) (some_either (λ z. x ≡ z) a b h)
 
-some_others : (P : Leaf → Type 0) (y : Leaf) (a b : List Leaf) → Some P (a ++ b) → Some P (a ++ (y ∷ b))
+some_others : (P : Leaf → Type 0) (y : Leaf) (a b : List Leaf) → Any P (a ++ b) → Any P (a ++ (y ∷ b))
 some_others P y a b h = ⊎_elim (λ i. some_left P a (y ∷ b) i) (λ i. some_right P a (y ∷ b) (inr i)) (some_either P a b h)
 
-each_there : (xs ys : List Leaf) → SameCollection xs ys → (x : Leaf) → Member x xs → Some (Alike x) ys
+each_there : (xs ys : List Leaf) → SameCollection xs ys → (x : Leaf) → Member x xs → Any (Alike x) ys
 each_there [] ys C x h = absurd h
 each_there (z ∷ xs) ys (a, y, b, e, k, C) x (inl h) = rw (e, h) (some_right (Alike z) a (y ∷ b) (inl k))
 each_there (z ∷ xs) ys (a, y, b, e, k, C) x (inr h) = rw e (some_others (Alike x) y a b (each_there xs (a ++ b) C x h))
 
-each_back : (xs ys : List Leaf) → SameCollection xs ys → (y : Leaf) → Member y ys → Some (Alike y) xs
+each_back : (xs ys : List Leaf) → SameCollection xs ys → (y : Leaf) → Member y ys → Any (Alike y) xs
 each_back [] ys C y h = absurd (rw C at h)
 each_back (z ∷ xs) ys (a, w, b, e, k, C) y h =
     ⊎_elim (λ i. inr (each_back xs (a ++ b) C y (some_left (λ v. y ≡ v) a b i)))
@@ -145,7 +144,7 @@ leaf_boxes s (internal b u v) N F x h =
 
 -- what is reached in t is reached in t'
 module _ (s s' : Lent) (t t' : Tree) (r : Ray) (R : T (admitted_ray r)) (N : Nested t) (F : Finite t) (N' : Nested t') (F' : Finite t') where
-  reached_there : ((x : Leaf) → Member x (leaves_of s.tree t) → Some (Alike x) (leaves_of s'.tree t')) → (k : ℕ) → Member k (numbers s.tree (reached r t)) → Member k (numbers s'.tree (reached r t'))
+  reached_there : ((x : Leaf) → Member x (leaves_of s.tree t) → Any (Alike x) (leaves_of s'.tree t')) → (k : ℕ) → Member k (numbers s.tree (reached r t)) → Member k (numbers s'.tree (reached r t'))
   reached_there L k h =
       let w = some_one (Holding s r k) (leaves_of s.tree t) (of_leaf s r k t h) in
       let x = w.0 in
@@ -402,9 +401,9 @@ places_alike : (a b : Told) → Agree a b → AgreeAt (place_of a) (place_of b)
 unfolding place_of placed
 places_alike a b h = rw (h.served, h.other_served, h.hit, h.triangles) (go b.hit)
   where
-    go : (f : Found) → AgreeAt (placed none f a.boxes b.triangles) (placed none f b.boxes b.triangles)
-    go Nothing = record { outcome = refl; which = refl; t = refl; u = refl; v = refl; triangles = refl; material = refl }
-    go (At g) = record { outcome = refl; which = refl; t = refl; u = refl; v = refl; triangles = refl; material = refl }
+    go : (f : Option Hit) → AgreeAt (placed none f a.boxes b.triangles) (placed none f b.boxes b.triangles)
+    go None = record { outcome = refl; which = refl; t = refl; u = refl; v = refl; triangles = refl; material = refl }
+    go (Some g) = record { outcome = refl; which = refl; t = refl; u = refl; v = refl; triangles = refl; material = refl }
 
 pub places_agree : (s s' : Lent) → Rearranged s s' → Labelled s.mesh → (rays times : List Float) (told : List ℕ) → (sky s rays times told).refusal ≡ none → (sky s' rays times told).refusal ≡ none
     → (k : ℕ) → k < ray_count rays → T (admitted_ray (ray_at rays k))

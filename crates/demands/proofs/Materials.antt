@@ -1,5 +1,6 @@
 -- The material of a hit is the list's entry of its triangle, and nothing else of an answer depends on the list (request A5): two lists of one length
 -- are carried through the walk side by side, which looks at them only where it is over. Assumes nothing.
+use Rattle.std.specs.Prelude.{Option, Some, None}
 use mathlib.Core.Path.{◌≡◌, refl, sym, ap}
 use mathlib.Core.List.{List, [], ◌∷◌}
 use Prim.Native.Nat.{ℕ, zero, suc, ◌<◌}
@@ -9,8 +10,6 @@ use Rattle.lent.specs.Ladder.{Refusal, none, numbered, answered, unless}
 use Rattle.aabb.specs.declared.vector.Ray.{Ray}
 use Rattle.aabb.specs.Vector.{ray_at}
 use Rattle.triangle.specs.declared.Hit.{Hit}
-use Rattle.triangle.specs.declared.Found.{Found}
-use Rattle.triangle.specs.declared.Found.TheVariants.{At, Nothing}
 use Rattle.triangle.specs.Meeting.{hit_at}
 use Rattle.triangle.specs.Mesh.{triangle_at}
 use Rattle.tree.specs.Lent.{Mesh, Lent, material_of, node_count}
@@ -68,14 +67,14 @@ same_but s m m' e r =
 
 -- ---- a hit's material is the list's entry of its triangle, whatever the lists are
 abbrev Entered : Mesh → Told → Type 0
-Entered m a = (h : Hit) → a.hit ≡ At h → h.material ≡ material_of m h.triangle
+Entered m a = (h : Hit) → a.hit ≡ Some h → h.material ≡ material_of m h.triangle
 
-hit_entry : (m : Mesh) (r : Ray) (b : Nearest) (h : Hit) → hit_of m r b ≡ At h → h.material ≡ material_of m h.triangle
+hit_entry : (m : Mesh) (r : Ray) (b : Nearest) (h : Hit) → hit_of m r b ≡ Some h → h.material ≡ material_of m h.triangle
 unfolding hit_of
 hit_entry m r Unmet h e = absurd (nowhere e)
 hit_entry m r (Met t k) h e = go (hit_at r (triangle_at m.triangles k) k (material_of m k) t) (unfold hit_at in refl) e
   where
-    go : (x : Hit) → x.material ≡ material_of m x.triangle → At x ≡ At h → h.material ≡ material_of m h.triangle
+    go : (x : Hit) → x.material ≡ material_of m x.triangle → Some x ≡ Some h → h.material ≡ material_of m h.triangle
     go x i e = let j : x ≡ h = cc in rw (← j) i
 
 pub its_material : (s : Lent) (r : Ray) → Entered s.mesh (walk s r)
@@ -84,21 +83,21 @@ its_material s r =
     both s s.mesh.materials s.mesh.materials r (λ a b. Entered s.mesh a) (λ k i h e. absurd (nowhere e)) (λ a h e. hit_entry s.mesh r a.nearest h e) refl
 
 -- ---- the same of each place of a sky
-place_but : (x : Refusal) (f g : Found) (b c : ℕ) → plain_found f ≡ plain_found g → SamePlaceBut (placed x f b c) (placed x g b c)
+place_but : (x : Refusal) (f g : Option Hit) (b c : ℕ) → plain_found f ≡ plain_found g → SamePlaceBut (placed x f b c) (placed x g b c)
 unfolding placed
 place_but (numbered k i) f g b c e = record { outcome = refl; which = refl; t = refl; u = refl; v = refl; boxes = refl; triangles = refl }
-place_but none Nothing Nothing b c e = record { outcome = refl; which = refl; t = refl; u = refl; v = refl; boxes = refl; triangles = refl }
-place_but none (At h) (At g) b c e = record {
+place_but none None None b c e = record { outcome = refl; which = refl; t = refl; u = refl; v = refl; boxes = refl; triangles = refl }
+place_but none (Some h) (Some g) b c e = record {
   outcome = refl;
-  which = ap (λ (f : Found). (placed none f b c).which) e;
-  t = ap (λ (f : Found). (placed none f b c).t) e;
-  u = ap (λ (f : Found). (placed none f b c).u) e;
-  v = ap (λ (f : Found). (placed none f b c).v) e;
+  which = ap (λ (f : Option Hit). (placed none f b c).which) e;
+  t = ap (λ (f : Option Hit). (placed none f b c).t) e;
+  u = ap (λ (f : Option Hit). (placed none f b c).u) e;
+  v = ap (λ (f : Option Hit). (placed none f b c).v) e;
   boxes = refl;
   triangles = refl;
 }
-place_but none Nothing (At g) b c e = absurd (nowhere e)
-place_but none (At h) Nothing b c e = absurd (nowhere (sym e))
+place_but none None (Some g) b c e = absurd (nowhere e)
+place_but none (Some h) None b c e = absurd (nowhere (sym e))
 
 places_but : (a a' : Told) → SameBut a a' → SamePlaceBut (place_of a) (place_of a')
 unfolding place_of

@@ -1,5 +1,6 @@
 -- The walk's hit is the nearest of those at the places that it tests, the lowest triangle number winning a tie; it misses where nothing is found there.
 -- By one order of hits, `Ahead`: a place's hit that replaces the one so far is ahead of it, and one that does not is behind it. Assumes nothing.
+use Rattle.std.specs.Prelude.{Option, Some, None}
 use mathlib.Core.Path.{◌≡◌, refl, sym, ap, ◌∙◌}
 use mathlib.Core.Logic.{◌⊎◌, inl, inr}
 use mathlib.Core.Bool.{Bool, true, false, cond}
@@ -18,10 +19,6 @@ use Rattle.aabb.specs.declared.vector.Ray.{Ray}
 use Rattle.aabb.specs.Vector.{admitted_ray}
 use Rattle.aabb.specs.Slab.{passes}
 use Rattle.triangle.specs.declared.Hit.{Hit}
-use Rattle.triangle.specs.declared.Found.{Found}
-use Rattle.triangle.specs.declared.Found.TheVariants.{At, Nothing}
-use Rattle.triangle.specs.declared.Distance.{Distance}
-use Rattle.triangle.specs.declared.Distance.TheVariants.{To, None}
 use Rattle.triangle.specs.Mesh.{triangle_at}
 use Rattle.triangle.specs.Meeting.{distance, hit_at, found, strike}
 use Rattle.triangle.specs.Spot.{Inside}
@@ -37,22 +34,22 @@ use Rattle.tree.specs.Accepted.{Walkable}
 use Rattle.tree.specs.Leaves.{range_of}
 use Rattle.demands.specs.Reached.{reached, nearest as nearest_of}
 use Rattle.demands.proofs.Walking.{walked}
-use Rattle.lent.specs.Members.{Every, Some}
+use Rattle.lent.specs.Members.{Every, Any}
 use Rattle.demands.specs.NearestHit.{Admitted, finds, Ahead, NearestAt, NothingAt}
 
 -- ---- with the whole hit carried, where the walk carries its t and its number
-abbrev bare : Found → Nearest
-bare Nothing = Unmet
-bare (At h) = Met h.t h.triangle
+abbrev bare : Option Hit → Nearest
+bare None = Unmet
+bare (Some h) = Met h.t h.triangle
 
-abbrev replaces : Found → Hit → Bool
+abbrev replaces : Option Hit → Hit → Bool
 replaces best h = replaces_by (bare best) h.triangle h.t
 
-unfoldable nearer : Found → Found → Found
-nearer best Nothing = best
-nearer best (At h) = cond (replaces best h) (At h) best
+unfoldable nearer : Option Hit → Option Hit → Option Hit
+nearer best None = best
+nearer best (Some h) = cond (replaces best h) (Some h) best
 
-abbrev nearest : Lent → Ray → Found → List ℕ → Found
+abbrev nearest : Lent → Ray → Option Hit → List ℕ → Option Hit
 nearest s r best [] = best
 nearest s r best (p ∷ ps) = nearest s r (nearer best (finds s r p)) ps
 
@@ -65,10 +62,10 @@ same_cond : (m : Mesh) (r : Ray) (q : Bool) (a b : Nearest) → hit_of m r (cond
 same_cond m r true a b = refl
 same_cond m r false a b = refl
 
-same_nearer : (m : Mesh) (r : Ray) (b : Nearest) (k : ℕ) (d : Distance) → hit_of m r (nearer_by b k d) ≡ nearer (hit_of m r b) (found r (triangle_at m.triangles k) k (material_of m k) d)
+same_nearer : (m : Mesh) (r : Ray) (b : Nearest) (k : ℕ) (d : Option Float) → hit_of m r (nearer_by b k d) ≡ nearer (hit_of m r b) (found r (triangle_at m.triangles k) k (material_of m k) d)
 unfolding nearer_by nearer found
 same_nearer m r b k None = refl
-same_nearer m r b k (To t) = same_cond m r (replaces_by b k t) (Met t k) b ∙ rw (same_replaces m r b k t) (unfold hit_of in refl)
+same_nearer m r b k (Some t) = same_cond m r (replaces_by b k t) (Met t k) b ∙ rw (same_replaces m r b k t) (unfold hit_of in refl)
 
 same_nearest : (s : Lent) (r : Ray) (ps : List ℕ) (b : Nearest) → hit_of s.mesh r (nearest_of s r b ps) ≡ nearest s r (hit_of s.mesh r b) ps
 unfolding after strike
@@ -76,7 +73,7 @@ same_nearest s r [] b = refl
 same_nearest s r (p ∷ ps) b =
     let k = get_or s.tree.index p 0 in
     same_nearest s r ps (after s.mesh.triangles r k b)
-    ∙ ap (λ (f : Found). nearest s r f ps) (same_nearer s.mesh r b k (distance r (triangle_at s.mesh.triangles k)))
+    ∙ ap (λ (f : Option Hit). nearest s r f ps) (same_nearer s.mesh r b k (distance r (triangle_at s.mesh.triangles k)))
 
 -- ---- the order of hits
 earlier_ahead : (h g : Hit) → T (lt h.t g.t) → Ahead h g
@@ -88,7 +85,7 @@ ahead_trans f g h a b = (
   λ l. let i = a.1 (le_trans g.t h.t f.t b.0 l) in let j = b.1 (le_trans h.t f.t g.t l a.0) in omega (arith, i, j),
 )
 
-kept_ahead : (b h : Hit) → T (real b.t) → T (real h.t) → replaces (At b) h ≡ false → Ahead b h
+kept_ahead : (b h : Hit) → T (real b.t) → T (real h.t) → replaces (Some b) h ≡ false → Ahead b h
 unfolding replaces_by
 kept_ahead b h B H e = go (ltb h.triangle b.triangle) refl e
   where
@@ -96,7 +93,7 @@ kept_ahead b h B H e = go (ltb h.triangle b.triangle) refl e
     go true i e = earlier_ahead b h (not_le→lt h.t b.t H B (rw e tt))
     go false i e = (not_lt→le b.t h.t B H (rw e tt), λ l. ltb-false h.triangle b.triangle i)
 
-replacing_ahead : (b h : Hit) → replaces (At b) h ≡ true → Ahead h b
+replacing_ahead : (b h : Hit) → replaces (Some b) h ≡ true → Ahead h b
 unfolding replaces_by
 replacing_ahead b h e = go (ltb h.triangle b.triangle) refl e
   where
@@ -113,125 +110,125 @@ finite_below x h = rw infinity_is (go x h)
     go (inf s) h = absurd h
     go nan h = absurd h
 
-pub nowhere : {h : Hit} → Nothing ≡ At h → ⊥
+pub nowhere : {h : Hit} → None ≡ Some h → ⊥
 nowhere {h} e = let z : ◌≡◌ {A = ℕ} 0 1 = cc in omega arith
 
 -- ---- what the tests at some places leave
 module _ (s : Lent) (r : Ray) where
   -- each t there is finite
   abbrev pub Finite : ℕ → Type 0
-  Finite p = (g : Hit) → finds s r p ≡ At g → T (finite g.t)
+  Finite p = (g : Hit) → finds s r p ≡ Some g → T (finite g.t)
 
   abbrev Behind : Hit → ℕ → Type 0
-  Behind h p = (g : Hit) → finds s r p ≡ At g → Ahead h g
+  Behind h p = (g : Hit) → finds s r p ≡ Some g → Ahead h g
 
-  abbrev Real : Found → Type 0
-  Real Nothing = Unit {0}
-  Real (At b) = T (real b.t)
+  abbrev Real : Option Hit → Type 0
+  Real None = Unit {0}
+  Real (Some b) = T (real b.t)
 
-  abbrev NoWorse : Hit → Found → Type 0
-  NoWorse h Nothing = Unit {0}
-  NoWorse h (At b) = Ahead h b
+  abbrev NoWorse : Hit → Option Hit → Type 0
+  NoWorse h None = Unit {0}
+  NoWorse h (Some b) = Ahead h b
 
   -- what the places ps make of best, if it is h
-  record Made (best : Found) (ps : List ℕ) (h : Hit) : Type 0 where
-    from : (best ≡ At h) ⊎ Some (λ (p : ℕ). finds s r p ≡ At h) ps
+  record Made (best : Option Hit) (ps : List ℕ) (h : Hit) : Type 0 where
+    from : (best ≡ Some h) ⊎ Any (λ (p : ℕ). finds s r p ≡ Some h) ps
     no_worse : NoWorse h best
     ahead : Every (Behind h) ps
 
-  no_worse_trans : (best : Found) (x h : Hit) → Ahead h x → NoWorse x best → NoWorse h best
-  no_worse_trans Nothing x h a b = tt
-  no_worse_trans (At y) x h a b = ahead_trans h x y a b
+  no_worse_trans : (best : Option Hit) (x h : Hit) → Ahead h x → NoWorse x best → NoWorse h best
+  no_worse_trans None x h a b = tt
+  no_worse_trans (Some y) x h a b = ahead_trans h x y a b
 
-  here : (p : ℕ) (x h : Hit) → finds s r p ≡ At x → Ahead h x → Behind h p
+  here : (p : ℕ) (x h : Hit) → finds s r p ≡ Some x → Ahead h x → Behind h p
   here p x h e a g j = let i : x ≡ g = cc in rw (← i) a
 
-  none_here : (best : Found) (p : ℕ) (ps : List ℕ) (h : Hit) → finds s r p ≡ Nothing → Made best ps h → Made best (p ∷ ps) h
+  none_here : (best : Option Hit) (p : ℕ) (ps : List ℕ) (h : Hit) → finds s r p ≡ None → Made best ps h → Made best (p ∷ ps) h
   none_here best p ps h e m = record { from = go m.from; no_worse = m.no_worse; ahead = ((λ g j. absurd (nowhere (sym e ∙ j))), m.ahead) }
     where
-      go : (best ≡ At h) ⊎ Some (λ (q : ℕ). finds s r q ≡ At h) ps → (best ≡ At h) ⊎ Some (λ (q : ℕ). finds s r q ≡ At h) (p ∷ ps)
+      go : (best ≡ Some h) ⊎ Any (λ (q : ℕ). finds s r q ≡ Some h) ps → (best ≡ Some h) ⊎ Any (λ (q : ℕ). finds s r q ≡ Some h) (p ∷ ps)
       go (inl i) = inl i
       go (inr i) = inr (inr i)
 
-  new_best : (best : Found) (p : ℕ) (ps : List ℕ) (x h : Hit) → finds s r p ≡ At x → NoWorse x best → Made (At x) ps h → Made best (p ∷ ps) h
+  new_best : (best : Option Hit) (p : ℕ) (ps : List ℕ) (x h : Hit) → finds s r p ≡ Some x → NoWorse x best → Made (Some x) ps h → Made best (p ∷ ps) h
   new_best best p ps x h e b m =
       record { from = inr (go m.from); no_worse = no_worse_trans best x h m.no_worse b; ahead = (here p x h e m.no_worse, m.ahead) }
     where
-      go : (At x ≡ At h) ⊎ Some (λ (q : ℕ). finds s r q ≡ At h) ps → Some (λ (q : ℕ). finds s r q ≡ At h) (p ∷ ps)
+      go : (Some x ≡ Some h) ⊎ Any (λ (q : ℕ). finds s r q ≡ Some h) ps → Any (λ (q : ℕ). finds s r q ≡ Some h) (p ∷ ps)
       go (inl i) = inl (e ∙ i)
       go (inr i) = inr i
 
-  old_best : (y : Hit) (p : ℕ) (ps : List ℕ) (x h : Hit) → finds s r p ≡ At x → Ahead y x → Made (At y) ps h → Made (At y) (p ∷ ps) h
+  old_best : (y : Hit) (p : ℕ) (ps : List ℕ) (x h : Hit) → finds s r p ≡ Some x → Ahead y x → Made (Some y) ps h → Made (Some y) (p ∷ ps) h
   old_best y p ps x h e a m =
       record { from = go m.from; no_worse = m.no_worse; ahead = (here p x h e (ahead_trans h y x m.no_worse a), m.ahead) }
     where
-      go : (At y ≡ At h) ⊎ Some (λ (q : ℕ). finds s r q ≡ At h) ps → (At y ≡ At h) ⊎ Some (λ (q : ℕ). finds s r q ≡ At h) (p ∷ ps)
+      go : (Some y ≡ Some h) ⊎ Any (λ (q : ℕ). finds s r q ≡ Some h) ps → (Some y ≡ Some h) ⊎ Any (λ (q : ℕ). finds s r q ≡ Some h) (p ∷ ps)
       go (inl i) = inl i
       go (inr i) = inr (inr i)
 
   -- a finite t replaces no hit at all
-  first_replaces : (x : Hit) → T (finite x.t) → replaces Nothing x ≡ false → ⊥
+  first_replaces : (x : Hit) → T (finite x.t) → replaces None x ≡ false → ⊥
   unfolding replaces_by
   first_replaces x f e = T_not (lt x.t infinity) (rw e tt) (finite_below x.t f)
 
-  replacing : (best : Found) (x : Hit) → replaces best x ≡ true → NoWorse x best
-  replacing Nothing x e = tt
-  replacing (At y) x e = replacing_ahead y x e
+  replacing : (best : Option Hit) (x : Hit) → replaces best x ≡ true → NoWorse x best
+  replacing None x e = tt
+  replacing (Some y) x e = replacing_ahead y x e
 
-  step : (best : Found) (p : ℕ) (ps : List ℕ) (h : Hit) (f : Found) → finds s r p ≡ f → Real best → Finite p
-      → ((b : Found) → Real b → nearest s r b ps ≡ At h → Made b ps h) → nearest s r (nearer best f) ps ≡ At h → Made best (p ∷ ps) h
+  step : (best : Option Hit) (p : ℕ) (ps : List ℕ) (h : Hit) (f : Option Hit) → finds s r p ≡ f → Real best → Finite p
+      → ((b : Option Hit) → Real b → nearest s r b ps ≡ Some h → Made b ps h) → nearest s r (nearer best f) ps ≡ Some h → Made best (p ∷ ps) h
   unfolding nearer
-  step best p ps h Nothing e b w k n = none_here best p ps h e (k best b n)
-  step best p ps h (At x) e b w k n = go (replaces best x) refl n
+  step best p ps h None e b w k n = none_here best p ps h e (k best b n)
+  step best p ps h (Some x) e b w k n = go (replaces best x) refl n
     where
-      kept : (y : Found) → best ≡ y → replaces y x ≡ false → Real y → nearest s r y ps ≡ At h → Made y (p ∷ ps) h
-      kept Nothing i l b n = absurd (first_replaces x (w x e) l)
-      kept (At y) i l b n = old_best y p ps x h e (kept_ahead y x b (finite_real x.t (w x e)) l) (k (At y) b n)
+      kept : (y : Option Hit) → best ≡ y → replaces y x ≡ false → Real y → nearest s r y ps ≡ Some h → Made y (p ∷ ps) h
+      kept None i l b n = absurd (first_replaces x (w x e) l)
+      kept (Some y) i l b n = old_best y p ps x h e (kept_ahead y x b (finite_real x.t (w x e)) l) (k (Some y) b n)
 
-      go : (q : Bool) → replaces best x ≡ q → nearest s r (cond q (At x) best) ps ≡ At h → Made best (p ∷ ps) h
-      go true l n = new_best best p ps x h e (replacing best x l) (k (At x) (finite_real x.t (w x e)) n)
+      go : (q : Bool) → replaces best x ≡ q → nearest s r (cond q (Some x) best) ps ≡ Some h → Made best (p ∷ ps) h
+      go true l n = new_best best p ps x h e (replacing best x l) (k (Some x) (finite_real x.t (w x e)) n)
       go false l n = kept best refl l b n
 
-  made : (ps : List ℕ) (best : Found) (h : Hit) → Real best → Every Finite ps → nearest s r best ps ≡ At h → Made best ps h
+  made : (ps : List ℕ) (best : Option Hit) (h : Hit) → Real best → Every Finite ps → nearest s r best ps ≡ Some h → Made best ps h
   made [] best h b a e = record { from = inl e; no_worse = itself best h b e; ahead = tt }
     where
-      itself : (best : Found) (h : Hit) → Real best → best ≡ At h → NoWorse h best
-      itself Nothing h b e = tt
-      itself (At y) h b e = let i : y ≡ h = cc in rw (← i) ((le_refl y.t b, λ l. omega arith))
+      itself : (best : Option Hit) (h : Hit) → Real best → best ≡ Some h → NoWorse h best
+      itself None h b e = tt
+      itself (Some y) h b e = let i : y ≡ h = cc in rw (← i) ((le_refl y.t b, λ l. omega arith))
   made (p ∷ ps) best h b a e = step best p ps h (finds s r p) refl b a.0 (λ c d. made ps c h d a.1) e
 
-  clear : (ps : List ℕ) (best : Found) → Every Finite ps → nearest s r best ps ≡ Nothing → (best ≡ Nothing) × Every (NothingAt s r) ps
+  clear : (ps : List ℕ) (best : Option Hit) → Every Finite ps → nearest s r best ps ≡ None → (best ≡ None) × Every (NothingAt s r) ps
   unfolding nearer
   clear [] best a e = (e, tt)
   clear (p ∷ ps) best a e = go (finds s r p) refl (clear ps (nearer best (finds s r p)) a.1 e)
     where
-      not_new : (q : Bool) (x : Hit) → replaces best x ≡ q → finds s r p ≡ At x → cond q (At x) best ≡ Nothing → ⊥
+      not_new : (q : Bool) (x : Hit) → replaces best x ≡ q → finds s r p ≡ Some x → cond q (Some x) best ≡ None → ⊥
       not_new true x l i e = nowhere (sym e)
-      not_new false x l i e = first_replaces x (a.0 x i) (ap (λ (f : Found). replaces f x) (sym e) ∙ l)
+      not_new false x l i e = first_replaces x (a.0 x i) (ap (λ (f : Option Hit). replaces f x) (sym e) ∙ l)
 
-      go : (f : Found) → finds s r p ≡ f → (nearer best f ≡ Nothing) × Every (NothingAt s r) ps → (best ≡ Nothing) × Every (NothingAt s r) (p ∷ ps)
-      go Nothing i w = (w.0, (i, w.1))
-      go (At x) i w = absurd (not_new (replaces best x) x refl i w.0)
+      go : (f : Option Hit) → finds s r p ≡ f → (nearer best f ≡ None) × Every (NothingAt s r) ps → (best ≡ None) × Every (NothingAt s r) (p ∷ ps)
+      go None i w = (w.0, (i, w.1))
+      go (Some x) i w = absurd (not_new (replaces best x) x refl i w.0)
 
   -- ---- from no hit on
-  abbrev pub hit_among : List ℕ → Found
+  abbrev pub hit_among : List ℕ → Option Hit
   hit_among ps = hit_of s.mesh r (nearest_of s r Unmet ps)
 
-  carried : (ps : List ℕ) → nearest s r Nothing ps ≡ hit_among ps
+  carried : (ps : List ℕ) → nearest s r None ps ≡ hit_among ps
   unfolding hit_of
   carried ps = sym (same_nearest s r ps Unmet)
 
   -- a hit is the nearest of those at the places, the lowest triangle number winning a tie
-  pub nearest_at : (ps : List ℕ) → Every Finite ps → (h : Hit) → hit_among ps ≡ At h → NearestAt s r ps h
-  nearest_at ps a h e = let m = made ps Nothing h tt a (carried ps ∙ e) in record { found = go m.from; ahead = m.ahead }
+  pub nearest_at : (ps : List ℕ) → Every Finite ps → (h : Hit) → hit_among ps ≡ Some h → NearestAt s r ps h
+  nearest_at ps a h e = let m = made ps None h tt a (carried ps ∙ e) in record { found = go m.from; ahead = m.ahead }
     where
-      go : (Nothing ≡ At h) ⊎ Some (λ (p : ℕ). finds s r p ≡ At h) ps → Some (λ (p : ℕ). finds s r p ≡ At h) ps
+      go : (None ≡ Some h) ⊎ Any (λ (p : ℕ). finds s r p ≡ Some h) ps → Any (λ (p : ℕ). finds s r p ≡ Some h) ps
       go (inl i) = absurd (nowhere i)
       go (inr i) = i
 
   -- where there is none, nothing is found at any of them
-  pub nothing_at : (ps : List ℕ) → Every Finite ps → hit_among ps ≡ Nothing → Every (NothingAt s r) ps
-  nothing_at ps a e = (clear ps Nothing a (carried ps ∙ e)).1
+  pub nothing_at : (ps : List ℕ) → Every Finite ps → hit_among ps ≡ None → Every (NothingAt s r) ps
+  nothing_at ps a e = (clear ps None a (carried ps ∙ e)).1
 
 -- ---- the places that a ray reaches
 all_append : (P : ℕ → Type 0) (ps qs : List ℕ) → Every P ps → Every P qs → Every P (ps ++ qs)
@@ -257,7 +254,7 @@ in_index s r (internal b u v) i H = all_append _ (reached r u) (reached r v) (in
 pub all_finite : (s : Lent) (r : Ray) → T (admitted_ray r) → (ps : List ℕ) → Every (Admitted s) ps → Every (Finite s r) ps
 all_finite s r R ps a = all_map (λ p h g e. let k = get_or s.tree.index p 0 in strike_finite r (triangle_at s.mesh.triangles k) R h k (material_of s.mesh k) g e) ps a
 
-some_holds : {P Q : ℕ → Type 0} {B : Type 0} → ((p : ℕ) → P p → Q p → B) → (ps : List ℕ) → Some P ps → Every Q ps → B
+some_holds : {P Q : ℕ → Type 0} {B : Type 0} → ((p : ℕ) → P p → Q p → B) → (ps : List ℕ) → Any P ps → Every Q ps → B
 some_holds f [] h a = absurd h
 some_holds f (p ∷ ps) (inl h) a = f p h a.0
 some_holds f (p ∷ ps) (inr h) a = some_holds f ps h a.1
@@ -275,15 +272,15 @@ module _ (s : Lent) (t : Tree) (r : Ray) (A : Walkable s t) (M : Labelled s.mesh
   walk_hit = ap (λ w. w.hit) (walked s t r A M R)
 
   -- the hit is the nearest of those at the places that are reached, the lowest triangle number winning a tie
-  pub walk_nearest : (h : Hit) → (walk s r).hit ≡ At h → NearestAt s r (reached r t) h
+  pub walk_nearest : (h : Hit) → (walk s r).hit ≡ Some h → NearestAt s r (reached r t) h
   walk_nearest h e = nearest_at s r (reached r t) reached_finite h (sym walk_hit ∙ e)
 
   -- and it lies inside its triangle, as u and v are rounded (rule T8)
-  pub walk_inside : (h : Hit) → (walk s r).hit ≡ At h → Inside h
+  pub walk_inside : (h : Hit) → (walk s r).hit ≡ Some h → Inside h
   walk_inside h e =
-      let f : (p : ℕ) → finds s r p ≡ At h → Admitted s p → Inside h = λ p i A. let k = get_or s.tree.index p 0 in spot_inside r (triangle_at s.mesh.triangles k) R A k (material_of s.mesh k) h i in
+      let f : (p : ℕ) → finds s r p ≡ Some h → Admitted s p → Inside h = λ p i A. let k = get_or s.tree.index p 0 in spot_inside r (triangle_at s.mesh.triangles k) R A k (material_of s.mesh k) h i in
       some_holds f (reached r t) (walk_nearest h e).found reached_admitted
 
   -- where there is none, nothing is found at any of them
-  pub walk_clear : (walk s r).hit ≡ Nothing → Every (NothingAt s r) (reached r t)
+  pub walk_clear : (walk s r).hit ≡ None → Every (NothingAt s r) (reached r t)
   walk_clear e = nothing_at s r (reached r t) reached_finite (sym walk_hit ∙ e)

@@ -1,4 +1,5 @@
 -- Tests that two answers are the same in every number, and that what they find same is equal: what a table of expected answers is computed with. Assumes nothing.
+use Rattle.std.specs.Prelude.{Option, Some, None}
 use Prim.Native.Nat.{ℕ}
 use mathlib.Core.Path.{◌≡◌, refl, ap}
 use mathlib.Core.Bool.{Bool, true, false, ◌&&◌, beq}
@@ -9,11 +10,8 @@ use lib.Ieee.{Float, nan, inf, fin}
 use lib.Ieee.Fits.{and_l, and_r}
 use Rattle.aabb.specs.declared.vector.Vec3.{Vec3}
 use Rattle.aabb.specs.declared.slab.Span.{Span}
-use Rattle.aabb.specs.declared.slab.Span.TheVariants.{Passed, Missed}
 use Rattle.aabb.specs.Vector.{vec}
 use Rattle.triangle.specs.declared.Hit.{Hit}
-use Rattle.triangle.specs.declared.Found.{Found}
-use Rattle.triangle.specs.declared.Found.TheVariants.{At, Nothing}
 use Rattle.triangle.proofs.Steps.{hit}
 use Rattle.builder.specs.Reply.{Reply}
 use Rattle.builder.specs.declared.split.SplitDecision.{SplitDecision}
@@ -82,17 +80,20 @@ module _ {A : Type 0} (same : A → A → Bool) (is : (x y : A) → T (same x y)
   list_is (x ∷ xs) (y ∷ ys) h = let p = is x y (and_l (same x y) (same_list xs ys) h) in let q = list_is xs ys (and_r (same x y) (same_list xs ys) h) in rw (p, q)
 
 -- ---- spans
-abbrev pub same_span : Span → Span → Bool
-same_span Missed Missed = true
-same_span (Passed a b) (Passed c d) = same_float a c && same_float b d
-same_span Missed (Passed c d) = false
-same_span (Passed a b) Missed = false
+abbrev pub same_span : Option Span → Option Span → Bool
+same_span None None = true
+same_span (Some a) (Some b) = same_float a.enter b.enter && same_float a.exit b.exit
+same_span None (Some b) = false
+same_span (Some a) None = false
 
-pub span_is : (x y : Span) → T (same_span x y) → x ≡ y
-span_is Missed Missed h = refl
-span_is (Passed a b) (Passed c d) h = let p = float_is a c (and_l (same_float a c) (same_float b d) h) in let q = float_is b d (and_r (same_float a c) (same_float b d) h) in rw (p, q)
-span_is Missed (Passed c d) h = absurd h
-span_is (Passed a b) Missed h = absurd h
+pub span_is : (x y : Option Span) → T (same_span x y) → x ≡ y
+span_is None None h = refl
+span_is (Some a) (Some b) h =
+    let p = float_is a.enter b.enter (and_l (same_float a.enter b.enter) (same_float a.exit b.exit) h) in
+    let q = float_is a.exit b.exit (and_r (same_float a.enter b.enter) (same_float a.exit b.exit) h) in
+    λ i. Some (record { enter = p i; exit = q i })
+span_is None (Some b) h = absurd h
+span_is (Some a) None h = absurd h
 
 -- ---- splits
 abbrev pub same_split : SplitDecision → SplitDecision → Bool
@@ -132,17 +133,17 @@ hit_is a b h =
     all : {t t' u u' v v' : Float} {p p' n n' : Vec3} {f f' : Bool} {k k' m m' : ℕ} → t ≡ t' → p ≡ p' → n ≡ n' → u ≡ u' → v ≡ v' → f ≡ f' → k ≡ k' → m ≡ m' → hit t p n u v f k m ≡ hit t' p' n' u' v' f' k' m'
     all a b c d e f g h = rw (a, b, c, d, e, f, g, h)
 
-abbrev same_found : Found → Found → Bool
-same_found Nothing Nothing = true
-same_found (At a) (At b) = same_hit a b
-same_found Nothing (At b) = false
-same_found (At a) Nothing = false
+abbrev same_found : Option Hit → Option Hit → Bool
+same_found None None = true
+same_found (Some a) (Some b) = same_hit a b
+same_found None (Some b) = false
+same_found (Some a) None = false
 
-found_is : (x y : Found) → T (same_found x y) → x ≡ y
-found_is Nothing Nothing h = refl
-found_is (At a) (At b) h = ap At (hit_is a b h)
-found_is Nothing (At b) h = absurd h
-found_is (At a) Nothing h = absurd h
+found_is : (x y : Option Hit) → T (same_found x y) → x ≡ y
+found_is None None h = refl
+found_is (Some a) (Some b) h = ap Some (hit_is a b h)
+found_is None (Some b) h = absurd h
+found_is (Some a) None h = absurd h
 
 -- ---- what a walk tells
 abbrev same_refusal : Refusal → Refusal → Bool
@@ -160,7 +161,7 @@ refusal_is (numbered k i) none h = absurd h
 abbrev pub same_told : Told → Told → Bool
 same_told a b = same_refusal a.refusal b.refusal && (same_found a.hit b.hit && (eqb a.boxes b.boxes && eqb a.triangles b.triangles))
 
-abbrev tells : Refusal → Found → ℕ → ℕ → Told
+abbrev tells : Refusal → Option Hit → ℕ → ℕ → Told
 tells r f b c = record { refusal = r; hit = f; boxes = b; triangles = c }
 
 congruent4 : {A B C D E : Type 0} (f : A → B → C → D → E) {a a' : A} {b b' : B} {c c' : C} {d d' : D} → a ≡ a' → b ≡ b' → c ≡ c' → d ≡ d' → f a b c d ≡ f a' b' c' d'

@@ -1,5 +1,6 @@
 -- The hit depends on which triangles stand at the places that are reached, and not on the order of the places nor on how often one is met: of two hits
 -- that are each ahead of the other the numbers are equal, and a number and a ray tell the hit. Assumes nothing.
+use Rattle.std.specs.Prelude.{Option, Some, None}
 use mathlib.Core.Path.{◌≡◌, refl, sym, ap, subst, ◌∙◌}
 use mathlib.Core.Logic.{◌⊎◌, inl, inr}
 use mathlib.Core.Bool.{Bool, true, false, cond}
@@ -13,10 +14,6 @@ use Rattle.aabb.specs.Vector.{admitted_ray}
 use Rattle.aabb.specs.Slab.{passes}
 use Rattle.triangle.specs.declared.Hit.{Hit}
 use Rattle.triangle.specs.declared.Triangle.{Triangle}
-use Rattle.triangle.specs.declared.Found.{Found}
-use Rattle.triangle.specs.declared.Found.TheVariants.{At, Nothing}
-use Rattle.triangle.specs.declared.Distance.{Distance}
-use Rattle.triangle.specs.declared.Distance.TheVariants.{To, None}
 use Rattle.triangle.specs.Mesh.{triangle_at}
 use Rattle.triangle.specs.Meeting.{distance, hit_at, found, strike}
 use Rattle.tree.specs.Lent.{Mesh, Lent, Labelled, material_of}
@@ -25,7 +22,7 @@ use Rattle.tree.specs.Tree.{Tree, leaf, internal}
 use Rattle.tree.specs.Holds.{Holds}
 use Rattle.tree.specs.Accepted.{Walkable}
 use Rattle.demands.specs.Reached.{reached}
-use Rattle.lent.specs.Members.{Every, Some}
+use Rattle.lent.specs.Members.{Every, Any}
 use Rattle.demands.specs.NearestHit.{Admitted, finds, Ahead, NearestAt, NothingAt}
 use Rattle.tree.specs.Leaves.{range_of, numbers, Leaf, leaves_of}
 use Rattle.demands.specs.SameLeaves.{SameNumbers, SameLeaf, SameLeaves, lists_with, with_index, SameWithin, Reordered}
@@ -33,31 +30,31 @@ use Rattle.lent.specs.Members.{Member}
 use Rattle.demands.proofs.NearestHit.{Finite, hit_among, nearest_at, nothing_at, nowhere, all_finite, reached_admitted, walk_hit}
 
 -- ---- some of a list
-pub some_left : {A : Type 0} (P : A → Type 0) (xs ys : List A) → Some P xs → Some P (xs ++ ys)
+pub some_left : {A : Type 0} (P : A → Type 0) (xs ys : List A) → Any P xs → Any P (xs ++ ys)
 some_left P [] ys h = absurd h
 some_left P (x ∷ xs) ys (inl h) = inl h
 some_left P (x ∷ xs) ys (inr h) = inr (some_left P xs ys h)
 
-pub some_right : {A : Type 0} (P : A → Type 0) (xs ys : List A) → Some P ys → Some P (xs ++ ys)
+pub some_right : {A : Type 0} (P : A → Type 0) (xs ys : List A) → Any P ys → Any P (xs ++ ys)
 some_right P [] ys h = h
 some_right P (x ∷ xs) ys h = inr (some_right P xs ys h)
 
-pub some_either : {A : Type 0} (P : A → Type 0) (xs ys : List A) → Some P (xs ++ ys) → Some P xs ⊎ Some P ys
+pub some_either : {A : Type 0} (P : A → Type 0) (xs ys : List A) → Any P (xs ++ ys) → Any P xs ⊎ Any P ys
 some_either P [] ys h = inr h
 some_either P (x ∷ xs) ys (inl h) = inl (inl h)
 some_either P (x ∷ xs) ys (inr h) = go (some_either P xs ys h)
   where
-    go : Some P xs ⊎ Some P ys → (P x ⊎ Some P xs) ⊎ Some P ys
+    go : Any P xs ⊎ Any P ys → (P x ⊎ Any P xs) ⊎ Any P ys
     go (inl i) = inl (inr i)
     go (inr i) = inr i
 
 -- one of them, and what holds of it
-pub some_one : {A : Type 0} (P : A → Type 0) (xs : List A) → Some P xs → (x : A) × Member x xs × P x
+pub some_one : {A : Type 0} (P : A → Type 0) (xs : List A) → Any P xs → (x : A) × Member x xs × P x
 some_one P [] h = absurd h
 some_one P (x ∷ xs) (inl h) = (x, inl refl, h)
 some_one P (x ∷ xs) (inr h) = let w = some_one P xs h in (w.0, inr w.1, w.2)
 
-pub one_some : {A : Type 0} (P : A → Type 0) (xs : List A) (x : A) → Member x xs → P x → Some P xs
+pub one_some : {A : Type 0} (P : A → Type 0) (xs : List A) (x : A) → Member x xs → P x → Any P xs
 one_some P [] x i h = absurd i
 one_some P (y ∷ ys) x (inl i) h = inl (rw (← i) h)
 one_some P (y ∷ ys) x (inr i) h = inr (one_some P ys x i h)
@@ -68,25 +65,25 @@ all_one P (q ∷ ps) a p (inl i) = rw i a.0
 all_one P (q ∷ ps) a p (inr i) = all_one P ps a.1 p i
 
 -- ---- a number and a ray tell the hit
-found_number : (r : Ray) (a : Triangle) (k m : ℕ) (d : Distance) (h : Hit) → found r a k m d ≡ At h → h.triangle ≡ k
+found_number : (r : Ray) (a : Triangle) (k m : ℕ) (d : Option Float) (h : Hit) → found r a k m d ≡ Some h → h.triangle ≡ k
 unfolding found hit_at
 found_number r a k m None h e = absurd (nowhere e)
-found_number r a k m (To t) h e = go (hit_at r a k m t) refl e
+found_number r a k m (Some t) h e = go (hit_at r a k m t) refl e
   where
-    go : (x : Hit) → x.triangle ≡ k → At x ≡ At h → h.triangle ≡ k
+    go : (x : Hit) → x.triangle ≡ k → Some x ≡ Some h → h.triangle ≡ k
     go x i e = let j : x ≡ h = cc in rw (← j) i
 
-abbrev strikes : Mesh → Ray → ℕ → Found
+abbrev strikes : Mesh → Ray → ℕ → Option Hit
 strikes m r k = strike r (triangle_at m.triangles k) k (material_of m k)
 
-strike_number : (mesh : Mesh) (r : Ray) (k : ℕ) (h : Hit) → strikes mesh r k ≡ At h → h.triangle ≡ k
+strike_number : (mesh : Mesh) (r : Ray) (k : ℕ) (h : Hit) → strikes mesh r k ≡ Some h → h.triangle ≡ k
 unfolding strike
 strike_number mesh r k h e = found_number r (triangle_at mesh.triangles k) k (material_of mesh k) (distance r (triangle_at mesh.triangles k)) h e
 
-both_ahead : (mesh : Mesh) (r : Ray) (j k : ℕ) (g h : Hit) → strikes mesh r j ≡ At g → strikes mesh r k ≡ At h → Ahead g h → Ahead h g → g ≡ h
+both_ahead : (mesh : Mesh) (r : Ray) (j k : ℕ) (g h : Hit) → strikes mesh r j ≡ Some g → strikes mesh r k ≡ Some h → Ahead g h → Ahead h g → g ≡ h
 both_ahead mesh r j k g h e f a b =
     let i : j ≡ k = let p = strike_number mesh r j g e in let q = strike_number mesh r k h f in let l = a.1 b.0 in let m = b.1 a.0 in omega (arith, p, q, l, m) in
-    let w : At g ≡ At h = sym e ∙ ap (strikes mesh r) i ∙ f in
+    let w : Some g ≡ Some h = sym e ∙ ap (strikes mesh r) i ∙ f in
     cc
 
 -- ---- places that hold a number, and what is found there
@@ -103,7 +100,7 @@ at_number s (q ∷ ps) p (inr i) = inr (at_number s ps p i)
 -- ---- two lists of places; each triangle of the first is held by the second
 module _ (s s' : Lent) (r : Ray) (mesh : s.mesh ≡ s'.mesh) (ps qs : List ℕ) (U : (k : ℕ) → Member k (numbers s.tree ps) → Member k (numbers s'.tree qs)) where
   -- what is found at one of ps is found at one of qs
-  found_too : (f : Found) → Some (λ (p : ℕ). finds s r p ≡ f) ps → (q : ℕ) × Member q qs × (finds s' r q ≡ f)
+  found_too : (f : Option Hit) → Any (λ (p : ℕ). finds s r p ≡ f) ps → (q : ℕ) × Member q qs × (finds s' r q ≡ f)
   found_too f w =
       let v = some_one (λ (p : ℕ). finds s r p ≡ f) ps w in
       let k = get_or s.tree.index v.0 0 in
@@ -112,13 +109,13 @@ module _ (s s' : Lent) (r : Ray) (mesh : s.mesh ≡ s'.mesh) (ps qs : List ℕ) 
 
   -- so a hit at ps is no miss at qs
   no_miss : (h : Hit) → NearestAt s r ps h → Every (NothingAt s' r) qs → ⊥
-  no_miss h n c = let w = found_too (At h) n.found in nowhere (sym (all_one (NothingAt s' r) qs c w.0 w.1) ∙ w.2)
+  no_miss h n c = let w = found_too (Some h) n.found in nowhere (sym (all_one (NothingAt s' r) qs c w.0 w.1) ∙ w.2)
 
   -- and the hit at qs is ahead of it
   is_ahead : (h g : Hit) → NearestAt s r ps h → NearestAt s' r qs g → Ahead g h
   is_ahead h g n m =
-      let w = found_too (At h) n.found in
-      all_one (λ p. (x : Hit) → finds s' r p ≡ At x → Ahead g x) qs m.ahead w.0 w.1 h w.2
+      let w = found_too (Some h) n.found in
+      all_one (λ p. (x : Hit) → finds s' r p ≡ Some x → Ahead g x) qs m.ahead w.0 w.1 h w.2
 
 -- two lists of places that hold the same admitted triangles leave an admitted ray the same hit
 pub same_nearest : (s s' : Lent) (r : Ray) (ps qs : List ℕ) → s.mesh ≡ s'.mesh → T (admitted_ray r) → Every (Admitted s) ps → Every (Admitted s') qs
@@ -131,16 +128,16 @@ same_nearest s s' r ps qs mesh R F G same = go (hit_among s r ps) (hit_among s' 
     Q : Every (Finite s' r) qs
     Q = all_finite s' r R qs G
 
-    go : (f g : Found) → hit_among s r ps ≡ f → hit_among s' r qs ≡ g → f ≡ g
-    go Nothing Nothing i j = refl
-    go Nothing (At g) i j = absurd (no_miss s' s r (sym mesh) qs ps same.1 g (nearest_at s' r qs Q g j) (nothing_at s r ps P i))
-    go (At h) Nothing i j = absurd (no_miss s s' r mesh ps qs same.0 h (nearest_at s r ps P h i) (nothing_at s' r qs Q j))
-    go (At h) (At g) i j =
+    go : (f g : Option Hit) → hit_among s r ps ≡ f → hit_among s' r qs ≡ g → f ≡ g
+    go None None i j = refl
+    go None (Some g) i j = absurd (no_miss s' s r (sym mesh) qs ps same.1 g (nearest_at s' r qs Q g j) (nothing_at s r ps P i))
+    go (Some h) None i j = absurd (no_miss s s' r mesh ps qs same.0 h (nearest_at s r ps P h i) (nothing_at s' r qs Q j))
+    go (Some h) (Some g) i j =
         let n = nearest_at s r ps P h i in
         let m = nearest_at s' r qs Q g j in
-        let u = some_one (λ (p : ℕ). finds s r p ≡ At h) ps n.found in
-        let w = found_too s' s r (sym mesh) qs ps same.1 (At g) m.found in
-        ap At (both_ahead s.mesh r (get_or s.tree.index u.0 0) (get_or s.tree.index w.0 0) h g u.2 w.2
+        let u = some_one (λ (p : ℕ). finds s r p ≡ Some h) ps n.found in
+        let w = found_too s' s r (sym mesh) qs ps same.1 (Some g) m.found in
+        ap Some (both_ahead s.mesh r (get_or s.tree.index u.0 0) (get_or s.tree.index w.0 0) h g u.2 w.2
         (is_ahead s' s r (sym mesh) qs ps same.1 g h m n) (is_ahead s s' r mesh ps qs same.0 h g n m))
 
 -- ---- the numbers that are reached are those of the leaves whose boxes are passed
@@ -153,20 +150,20 @@ module _ (s : Lent) (r : Ray) (k : ℕ) where
   abbrev pub Holding : Leaf → Type 0
   Holding x = T (passes r x.box) × Member k x.holds
 
-  pub of_leaf : (t : Tree) → Member k (numbers s.tree (reached r t)) → Some Holding (leaves_of s.tree t)
+  pub of_leaf : (t : Tree) → Member k (numbers s.tree (reached r t)) → Any Holding (leaves_of s.tree t)
   of_leaf (leaf b p c) h = go (passes r b) refl h
     where
-      go : (q : Bool) → passes r b ≡ q → Member k (numbers s.tree (cond q (range_of c p) [])) → Some Holding (leaves_of s.tree (leaf b p c))
+      go : (q : Bool) → passes r b ≡ q → Member k (numbers s.tree (cond q (range_of c p) [])) → Any Holding (leaves_of s.tree (leaf b p c))
       go true e h = inl (rw e tt, h)
       go false e h = absurd h
   of_leaf (internal b u v) h = go (some_either (λ (l : ℕ). k ≡ l) (numbers s.tree (reached r u)) (numbers s.tree (reached r v)) (rw (numbers_append s (reached r u) (reached r v)) at h)) (of_leaf u) (of_leaf v)
     where
-      go : Member k (numbers s.tree (reached r u)) ⊎ Member k (numbers s.tree (reached r v)) → (Member k (numbers s.tree (reached r u)) → Some Holding (leaves_of s.tree u)) → (Member k (numbers s.tree (reached r v)) → Some Holding (leaves_of s.tree v))
-          → Some Holding (leaves_of s.tree u ++ leaves_of s.tree v)
+      go : Member k (numbers s.tree (reached r u)) ⊎ Member k (numbers s.tree (reached r v)) → (Member k (numbers s.tree (reached r u)) → Any Holding (leaves_of s.tree u)) → (Member k (numbers s.tree (reached r v)) → Any Holding (leaves_of s.tree v))
+          → Any Holding (leaves_of s.tree u ++ leaves_of s.tree v)
       go (inl i) f g = some_left Holding (leaves_of s.tree u) (leaves_of s.tree v) (f i)
       go (inr i) f g = some_right Holding (leaves_of s.tree u) (leaves_of s.tree v) (g i)
 
-  pub to_leaf : (t : Tree) → Some Holding (leaves_of s.tree t) → Member k (numbers s.tree (reached r t))
+  pub to_leaf : (t : Tree) → Any Holding (leaves_of s.tree t) → Member k (numbers s.tree (reached r t))
   to_leaf (leaf b p c) (inr h) = absurd h
   to_leaf (leaf b p c) (inl h) = go (passes r b) h.0
     where
@@ -175,13 +172,13 @@ module _ (s : Lent) (r : Ray) (k : ℕ) where
       go false e = absurd e
   to_leaf (internal b u v) h = go (some_either Holding (leaves_of s.tree u) (leaves_of s.tree v) h) (to_leaf u) (to_leaf v)
     where
-      go : Some Holding (leaves_of s.tree u) ⊎ Some Holding (leaves_of s.tree v) → (Some Holding (leaves_of s.tree u) → Member k (numbers s.tree (reached r u))) → (Some Holding (leaves_of s.tree v) → Member k (numbers s.tree (reached r v)))
+      go : Any Holding (leaves_of s.tree u) ⊎ Any Holding (leaves_of s.tree v) → (Any Holding (leaves_of s.tree u) → Member k (numbers s.tree (reached r u))) → (Any Holding (leaves_of s.tree v) → Member k (numbers s.tree (reached r v)))
           → Member k (numbers s.tree (reached r u ++ reached r v))
       go (inl i) f g = rw (numbers_append s (reached r u) (reached r v)) (some_left (λ (l : ℕ). k ≡ l) (numbers s.tree (reached r u)) (numbers s.tree (reached r v)) (f i))
       go (inr i) f g = rw (numbers_append s (reached r u) (reached r v)) (some_right (λ (l : ℕ). k ≡ l) (numbers s.tree (reached r u)) (numbers s.tree (reached r v)) (g i))
 
 -- each leaf of t is the same as one of t': what is reached in t is reached in t'
-reached_too : (s s' : Lent) (t t' : Tree) (r : Ray) → ((x : Leaf) → Member x (leaves_of s.tree t) → Some (SameLeaf x) (leaves_of s'.tree t')) → (k : ℕ) → Member k (numbers s.tree (reached r t)) → Member k (numbers s'.tree (reached r t'))
+reached_too : (s s' : Lent) (t t' : Tree) (r : Ray) → ((x : Leaf) → Member x (leaves_of s.tree t) → Any (SameLeaf x) (leaves_of s'.tree t')) → (k : ℕ) → Member k (numbers s.tree (reached r t)) → Member k (numbers s'.tree (reached r t'))
 reached_too s s' t t' r L k h =
     let w = some_one (Holding s r k) (leaves_of s.tree t) (of_leaf s r k t h) in
     let x = w.0 in
@@ -237,11 +234,11 @@ same_within s index (leaf b p c) w = (one, other)
     new : Leaf
     new = record { box = b; holds = numbers (lists_with s.tree index) (range_of c p) }
 
-    one : (x : Leaf) → Member x (own ∷ []) → Some (SameLeaf x) (new ∷ [])
+    one : (x : Leaf) → Member x (own ∷ []) → Any (SameLeaf x) (new ∷ [])
     one x (inl i) = inl (rw i ((refl, w)))
     one x (inr i) = absurd i
 
-    other : (y : Leaf) → Member y (new ∷ []) → Some (SameLeaf y) (own ∷ [])
+    other : (y : Leaf) → Member y (new ∷ []) → Any (SameLeaf y) (own ∷ [])
     other y (inl i) = inl (rw i ((refl, (w.1, w.0))))
     other y (inr i) = absurd i
 same_within s index (internal b u v) w =
@@ -250,10 +247,10 @@ same_within s index (internal b u v) w =
     let n = lists_with s.tree index in
     (joined (leaves_of s.tree u) (leaves_of s.tree v) (leaves_of n u) (leaves_of n v) P.0 Q.0, joined (leaves_of n u) (leaves_of n v) (leaves_of s.tree u) (leaves_of s.tree v) P.1 Q.1)
   where
-    joined : (a b c d : List Leaf) → ((x : Leaf) → Member x a → Some (SameLeaf x) c) → ((x : Leaf) → Member x b → Some (SameLeaf x) d) → (x : Leaf) → Member x (a ++ b) → Some (SameLeaf x) (c ++ d)
+    joined : (a b c d : List Leaf) → ((x : Leaf) → Member x a → Any (SameLeaf x) c) → ((x : Leaf) → Member x b → Any (SameLeaf x) d) → (x : Leaf) → Member x (a ++ b) → Any (SameLeaf x) (c ++ d)
     joined a b c d f g x i = go (some_either (λ (y : Leaf). x ≡ y) a b i)
       where
-        go : Member x a ⊎ Member x b → Some (SameLeaf x) (c ++ d)
+        go : Member x a ⊎ Member x b → Any (SameLeaf x) (c ++ d)
         go (inl j) = some_left (SameLeaf x) c d (f x j)
         go (inr j) = some_right (SameLeaf x) c d (g x j)
 

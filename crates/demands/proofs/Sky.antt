@@ -1,4 +1,5 @@
 -- Demand 3 for every place of a sky of rays over a built tree: a place tells what the single walk answers, and that meets it. Assumes nothing.
+use Rattle.std.specs.Prelude.{Option, Some, None}
 use mathlib.Core.Path.{◌≡◌, refl, ap, ◌∙◌}
 use mathlib.Core.Logic.{inl, inr}
 use mathlib.Core.List.{List}
@@ -10,8 +11,6 @@ use Rattle.float.specs.Number.{nought}
 use Rattle.aabb.specs.declared.vector.Ray.{Ray}
 use Rattle.aabb.specs.Vector.{ray_at}
 use Rattle.triangle.specs.declared.Hit.{Hit}
-use Rattle.triangle.specs.declared.Found.{Found}
-use Rattle.triangle.specs.declared.Found.TheVariants.{At, Nothing}
 use Rattle.builder.specs.Reply.{served_reply}
 use Rattle.builder.specs.Build.{built}
 use Rattle.sky.specs.declared.Place.{Place}
@@ -28,17 +27,17 @@ use Rattle.demands.specs.Sky.{Demand3At, SignedSky}
 use Rattle.demands.proofs.Demand.{labelled, built_walk}
 
 -- ---- what a place tells of a walk that is served
-hit_place : (a : Told) (h : Hit) → a.refusal ≡ none → a.hit ≡ At h → place_of a ≡ record { outcome = 100; which = h.triangle; t = h.t; u = h.u; v = h.v; boxes = a.boxes; triangles = a.triangles; material = h.material }
+hit_place : (a : Told) (h : Hit) → a.refusal ≡ none → a.hit ≡ Some h → place_of a ≡ record { outcome = 100; which = h.triangle; t = h.t; u = h.u; v = h.v; boxes = a.boxes; triangles = a.triangles; material = h.material }
 unfolding place_of placed
 hit_place a h e f = rw (e, f)
 
-miss_place : (a : Told) → a.refusal ≡ none → a.hit ≡ Nothing → place_of a ≡ record { outcome = 0; which = 0; t = nought; u = nought; v = nought; boxes = a.boxes; triangles = a.triangles; material = 0 }
+miss_place : (a : Told) → a.refusal ≡ none → a.hit ≡ None → place_of a ≡ record { outcome = 0; which = 0; t = nought; u = nought; v = nought; boxes = a.boxes; triangles = a.triangles; material = 0 }
 unfolding place_of placed
 miss_place a e f = rw (e, f)
 
 module _ (s : Lent) (t : Tree) (r : Ray) (D : Demand3 s t r) where
-  by_hit : (f : Found) → (walk s r).hit ≡ f → Demand3At s t r (place_of (walk s r))
-  by_hit (At h) e =
+  by_hit : (f : Option Hit) → (walk s r).hit ≡ f → Demand3At s t r (place_of (walk s r))
+  by_hit (Some h) e =
       let q = hit_place (walk s r) h D.served e in
       let out = ap (λ (p : Place). p.outcome) q in
       let boxes = ap (λ (p : Place). p.boxes) q in
@@ -52,7 +51,7 @@ module _ (s : Lent) (t : Tree) (r : Ray) (D : Demand3 s t r) where
         hit = λ o. record { hit = h; triangle = ap (λ (p : Place). p.which) q; t_is = ap (λ (p : Place). p.t) q; u_is = ap (λ (p : Place). p.u) q; v_is = ap (λ (p : Place). p.v) q; material = ap (λ (p : Place). p.material) q; nearest = D.hit h e };
         no_hit = λ o. absurd (omega (arith, out, o));
       }
-  by_hit Nothing e =
+  by_hit None e =
       let q = miss_place (walk s r) D.served e in
       let out = ap (λ (p : Place). p.outcome) q in
       let boxes = ap (λ (p : Place). p.boxes) q in

@@ -1,10 +1,9 @@
 -- Demand 3 (rule G3): what a walk of lists that hold a tree must answer, and what is signed of a built tree. "Passes" is the slab test's own answer on
 -- the node's own box, whatever its parents say. Definitions only.
-use Rattle.std.specs.Prelude.{◌≡◌, ℕ, ◌+◌, ◌*◌, ◌≤◌, List, T, length}
+use Rattle.std.specs.Prelude.{◌≡◌, ℕ, ◌+◌, ◌*◌, ◌≤◌, List, T, length, Some, None}
 use Rattle.aabb.specs.declared.vector.Ray.{Ray}
 use Rattle.aabb.specs.Vector.{admitted_ray}
 use Rattle.triangle.specs.declared.Hit.{Hit}
-use Rattle.triangle.specs.declared.Found.TheVariants.{At, Nothing}
 use Rattle.lent.specs.Ladder.{none, triangle_count}
 use Rattle.tree.specs.Lent.{Lent, node_count}
 use Rattle.walk.specs.Walk.{walk}
@@ -26,8 +25,8 @@ pub record Demand3 (s : Lent) (t : Tree) (r : Ray) : Type 0 where
   pub most_boxes : (walk s r).boxes + 1 ≤ 2 * leaves t
   pub most_triangles : (walk s r).triangles ≤ triangle_count s.mesh.triangles
   -- the hit is the nearest found in those leaves (rule E2), and there is none only where nothing is found there
-  pub hit : (h : Hit) → (walk s r).hit ≡ At h → NearestAt s r (reached r t) h
-  pub no_hit : (walk s r).hit ≡ Nothing → Every (NothingAt s r) (reached r t)
+  pub hit : (h : Hit) → (walk s r).hit ≡ Some h → NearestAt s r (reached r t) h
+  pub no_hit : (walk s r).hit ≡ None → Every (NothingAt s r) (reached r t)
 
 -- ---- what is signed
 -- The lists of a tree that was handed over: they hold one tree, whatever the ray, of so many nodes and leaves; its nodes are the node numbers, each but

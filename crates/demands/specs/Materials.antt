@@ -1,8 +1,6 @@
 -- What a list of materials changes of an answer (request A5): the material of a hit, and nothing else. Definitions only.
-use Rattle.std.specs.Prelude.{◌≡◌, List, ℕ}
+use Rattle.std.specs.Prelude.{◌≡◌, List, ℕ, Option, Some, None}
 use Rattle.triangle.specs.declared.Hit.{Hit}
-use Rattle.triangle.specs.declared.Found.{Found}
-use Rattle.triangle.specs.declared.Found.TheVariants.{At, Nothing}
 use Rattle.tree.specs.Lent.{Lent, mesh_of}
 use Rattle.walk.specs.Answer.{Told}
 use Rattle.sky.specs.declared.Place.{Place}
@@ -15,9 +13,9 @@ with_materials s materials = record { mesh = mesh_of s.mesh.triangles materials;
 abbrev pub plain : Hit → Hit
 plain h = record { t = h.t; point = h.point; normal = h.normal; u = h.u; v = h.v; front = h.front; triangle = h.triangle; material = 0 }
 
-abbrev pub plain_found : Found → Found
-plain_found Nothing = Nothing
-plain_found (At h) = At (plain h)
+abbrev pub plain_found : Option Hit → Option Hit
+plain_found None = None
+plain_found (Some h) = Some (plain h)
 
 -- two answers that are equal but for the material
 pub record SameBut (a b : Told) : Type 0 where

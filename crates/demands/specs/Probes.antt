@@ -1,15 +1,13 @@
 -- The probe table, P1 to P13: what is asked, and every number that must come of it. Definitions only.
-use Rattle.std.specs.Prelude.{ℕ, zero, suc, ◌*◌, ◌≡◌, Bool, true, false, List, [], ◌∷◌, ◌++◌, replicate, pos, negsuc, Float}
+use Rattle.std.specs.Prelude.{ℕ, zero, suc, ◌*◌, ◌≡◌, Bool, true, false, List, [], ◌∷◌, ◌++◌, replicate, pos, negsuc, Float, Option, Some, None}
 use Rattle.std.specs.Float.{inf, fin}
 use Rattle.aabb.specs.declared.vector.Vec3.{Vec3}
 use Rattle.aabb.specs.declared.vector.Ray.{Ray}
 use Rattle.aabb.specs.declared.bounds.Aabb.{Aabb}
 use Rattle.aabb.specs.declared.slab.Span.{Span}
-use Rattle.aabb.specs.declared.slab.Span.TheVariants.{Passed, Missed}
 use Rattle.aabb.specs.Vector.{vec}
 use Rattle.aabb.specs.Bounds.{box, box_at}
-use Rattle.aabb.specs.Slab.{slab}
-use Rattle.triangle.specs.declared.Found.TheVariants.{At, Nothing}
+use Rattle.aabb.specs.Slab.{passed, slab}
 use Rattle.builder.specs.Reply.{served_reply}
 use Rattle.builder.specs.declared.split.SplitDecision.{SplitDecision}
 use Rattle.builder.specs.declared.split.SplitDecision.TheVariants.{Split}
@@ -43,9 +41,9 @@ quarter = over 1 2
 -- ---- what is asked
 pub data Probe : Type 0 where
   -- a ray against a box: the times, or none
-  slabbed : Ray → Aabb → Span → Probe
+  slabbed : Ray → Aabb → Option Span → Probe
   -- a ray against the root's box, read from the built lists of a mesh
-  slabbed_root : List Float → Ray → Span → Probe
+  slabbed_root : List Float → Ray → Option Span → Probe
   -- the split of a whole mesh
   split : List Float → SplitDecision → Probe
   -- a mesh, built in room that just suffices
@@ -85,10 +83,10 @@ abbrev down : Float → Float → Float → Ray
 down x y z = ray (vec x y z) (vec (int 0) (int 0) (minus 1))
 
 abbrev missed : ℕ → ℕ → Told
-missed b c = record { refusal = none; hit = Nothing; boxes = b; triangles = c }
+missed b c = record { refusal = none; hit = None; boxes = b; triangles = c }
 
 abbrev struck : Float → Vec3 → Vec3 → Float → Float → Bool → ℕ → ℕ → ℕ → ℕ → Told
-struck t point normal u v front k m b c = record { refusal = none; hit = At (record { t = t; point = point; normal = normal; u = u; v = v; front = front; triangle = k; material = m }); boxes = b; triangles = c }
+struck t point normal u v front k m b c = record { refusal = none; hit = Some (record { t = t; point = point; normal = normal; u = u; v = v; front = front; triangle = k; material = m }); boxes = b; triangles = c }
 
 -- the triangle T: right-angled, its legs of 1 along x and y
 abbrev up : Vec3
@@ -152,8 +150,8 @@ unfoldable pub probes : List Probe
 probes =
     -- P1: the tree of no triangles is one node, whose box a slanting ray passes and one that is flat on an axis does not
     grown [] (outcome (served_reply 1 1) [] infinite (0 ∷ 0 ∷ 1 ∷ [])) ∷
-    slabbed_root [] (ray (vec quarter quarter (int 1)) (vec (int 1) (int 1) (int 1))) (Passed (int 0) (inf false)) ∷
-    slabbed_root [] (down quarter quarter (int 1)) Missed ∷
+    slabbed_root [] (ray (vec quarter quarter (int 1)) (vec (int 1) (int 1) (int 1))) (passed (int 0) (inf false)) ∷
+    slabbed_root [] (down quarter quarter (int 1)) None ∷
     walked [] [] (ray (vec quarter quarter (int 1)) (vec (int 1) (int 1) (int 1))) (missed 1 0) ∷
     walked [] [] (down quarter quarter (int 1)) (missed 1 0) ∷
     -- P2: T from above is met at 1, from the front, after one test of each kind
@@ -171,8 +169,8 @@ probes =
     walked T wall (down quarter quarter (over 1 20)) (missed 1 1) ∷
     walked T wall (down quarter quarter (over 1 19)) (struck (over 1 19) (vec quarter quarter (int 0)) up quarter quarter true 0 70 1 1) ∷
     -- P8: above the unit cube, a direction of length 2^-40 is flat on all axes, and one of 2^-39 is not
-    slabbed (ray (vec (over 1 1) (over 1 1) (times 1 1)) (vec (int 0) (int 0) (fin true 1 (negsuc 39)))) unit Missed ∷
-    slabbed (ray (vec (over 1 1) (over 1 1) (times 1 1)) (vec (int 0) (int 0) (fin true 1 (negsuc 38)))) unit (Passed (times 1 39) (times 1 40)) ∷
+    slabbed (ray (vec (over 1 1) (over 1 1) (times 1 1)) (vec (int 0) (int 0) (fin true 1 (negsuc 39)))) unit None ∷
+    slabbed (ray (vec (over 1 1) (over 1 1) (times 1 1)) (vec (int 0) (int 0) (fin true 1 (negsuc 38)))) unit (passed (times 1 39) (times 1 40)) ∷
     -- P9: T five times over is one leaf
     grown (T ++ T ++ T ++ T ++ T) (outcome (served_reply 1 1) (0 ∷ 1 ∷ 2 ∷ 3 ∷ 4 ∷ []) (flat ++ replicate 48 (int 0)) (0 ∷ 5 ∷ 1 ∷ replicate 24 0)) ∷
     -- P10: the row of five is split on x at 21, two to the left and three to the right

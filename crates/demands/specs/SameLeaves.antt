@@ -1,7 +1,7 @@
 -- What it is that two trees have the same leaves, whatever the order of the leaves and of the index list within each. Definitions only.
 use Rattle.std.specs.Prelude.{◌≡◌, List, ℕ, ◌<◌, length, get_or}
 use Rattle.lent.specs.Ladder.{triangle_count}
-use Rattle.lent.specs.Members.{Some, Member}
+use Rattle.lent.specs.Members.{Any, Member}
 use Rattle.tree.specs.Lent.{Lists, Lent}
 use Rattle.tree.specs.Tree.{Tree, leaf, internal}
 use Rattle.tree.specs.Leaves.{range_of, numbers, Leaf}
@@ -15,7 +15,7 @@ SameLeaf x y = (x.box ≡ y.box) × SameNumbers x.holds y.holds
 
 -- each leaf of the one tree is the same as a leaf of the other, and the other way
 abbrev pub SameLeaves : List Leaf → List Leaf → Type 0
-SameLeaves xs ys = ((x : Leaf) → Member x xs → Some (SameLeaf x) ys) × ((y : Leaf) → Member y ys → Some (SameLeaf y) xs)
+SameLeaves xs ys = ((x : Leaf) → Member x xs → Any (SameLeaf x) ys) × ((y : Leaf) → Member y ys → Any (SameLeaf y) xs)
 
 -- ---- another index list in place of the tree's own: as long, its entries below n, and in each leaf the same triangles
 abbrev pub lists_with : Lists → List ℕ → Lists

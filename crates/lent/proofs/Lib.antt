@@ -1,4 +1,5 @@
 pub mod Ladder
+pub mod Refusals
 pub mod Lowest
 pub mod Flat
 pub mod Permutation
