@@ -15,8 +15,7 @@ use borrow.Rule.Slice.PartMut.{mid_of, post_of, put_mid}
 use Rattle.float.proofs.Cases.{neither}
 use Rattle.aabb.specs.declared.bounds.Aabb.{Aabb}
 use Rattle.triangle.specs.Mesh.{centroid_at}
-use Rattle.builder.specs.declared.division.Made.{Made}
-use Rattle.builder.specs.declared.division.Made.TheVariants.{Deep, Next}
+use Rattle.std.specs.Prelude.{Option as Maybe, Some, None}
 use Rattle.builder.specs.declared.split.SplitDecision.{SplitDecision}
 use Rattle.builder.specs.declared.split.SplitDecision.TheVariants.{MakeLeaf, Split}
 use Rattle.builder.specs.Choice.{best_split}
@@ -212,20 +211,20 @@ module _ (xs l : List ℕ) (k : ℕ) (h : k ≤ length xs) (e : length l ≡ len
       ∙ ap (λ (z : List ℕ). l ++ z) (append-nil r)
 
 -- ---- two halves laid out make the internal laid out
-pub never : (n : ℕ) → Next n ≡ Deep → ⊥
+pub never : (n : ℕ) → Some n ≡ None → ⊥
 never n e = let z : ◌≡◌ {A = ℕ} 0 1 = cc in omega arith
 
-pub next_same : (n k : ℕ) → Next n ≡ Next k → n ≡ k
+pub next_same : (n k : ℕ) → Some n ≡ Some k → n ≡ k
 next_same n k e = cc
 
-fork_laid : (b : Aabb) (l r : Grown) (node next then : ℕ) (bs bs₂ bs₃ : List Float) (ls ls₂ ls₃ : List ℕ) (a : Made) (i₁ i₂ : List ℕ)
-    → Laid l next (next + 2) (box_put bs node b) (link_put ls node next 0 0) (Next then) i₁ bs₂ ls₂ → Laid r (next + 1) then bs₂ ls₂ a i₂ bs₃ ls₃
+fork_laid : (b : Aabb) (l r : Grown) (node next then : ℕ) (bs bs₂ bs₃ : List Float) (ls ls₂ ls₃ : List ℕ) (a : Maybe ℕ) (i₁ i₂ : List ℕ)
+    → Laid l next (next + 2) (box_put bs node b) (link_put ls node next 0 0) (Some then) i₁ bs₂ ls₂ → Laid r (next + 1) then bs₂ ls₂ a i₂ bs₃ ls₃
     → Laid (grown_as (internal b l.tree r.tree) (l.ids ++ r.ids)) node next bs ls a (i₁ ++ i₂) bs₃ ls₃
 unfolding boxes_of links_of
 fork_laid b l r node next then bs bs₂ bs₃ ls ls₂ ls₃ a i₁ i₂ p q =
     let t : then ≡ next + 2 + below l.tree = next_same then (next + 2 + below l.tree) p.answer in
     record {
-      answer = q.answer ∙ ap Next (sum next then (below l.tree) (below r.tree) t);
+      answer = q.answer ∙ ap Some (sum next then (below l.tree) (below r.tree) t);
       index_is = ap (λ (z : List ℕ). z ++ i₂) p.index_is ∙ ap (λ (z : List ℕ). l.ids ++ z) q.index_is;
       boxes_are = q.boxes_are ∙ ap (λ (z : List Float). boxes_of r.tree (next + 1) then z) p.boxes_are ∙ ap (λ (n : ℕ). boxes_of r.tree (next + 1) n (boxes_of l.tree next (next + 2) (box_put bs node b))) t;
       links_are = q.links_are ∙ ap (λ (z : List ℕ). links_of r.tree (next + 1) then z) p.links_are ∙ ap (λ (n : ℕ). links_of r.tree (next + 1) n (links_of l.tree next (next + 2) (link_put ls node next 0 0))) t;
@@ -234,21 +233,21 @@ fork_laid b l r node next then bs bs₂ bs₃ ls ls₂ ls₃ a i₁ i₂ p q =
     sum : (n t x y : ℕ) → t ≡ n + 2 + x → t + y ≡ n + (2 + (x + y))
     sum n t x y e = omega arith
 
-fork_divided : (b : Aabb) (l r : Option Grown) (node next then : ℕ) (bs bs₂ bs₃ : List Float) (ls ls₂ ls₃ : List ℕ) (a : Made) (i₁ i₂ : List ℕ)
-    → Divided l next (next + 2) (box_put bs node b) (link_put ls node next 0 0) (Next then) i₁ bs₂ ls₂ → Divided r (next + 1) then bs₂ ls₂ a i₂ bs₃ ls₃
+fork_divided : (b : Aabb) (l r : Option Grown) (node next then : ℕ) (bs bs₂ bs₃ : List Float) (ls ls₂ ls₃ : List ℕ) (a : Maybe ℕ) (i₁ i₂ : List ℕ)
+    → Divided l next (next + 2) (box_put bs node b) (link_put ls node next 0 0) (Some then) i₁ bs₂ ls₂ → Divided r (next + 1) then bs₂ ls₂ a i₂ bs₃ ls₃
     → Divided (joined b l r) node next bs ls a (i₁ ++ i₂) bs₃ ls₃
 unfolding joined
 fork_divided b none r node next then bs bs₂ bs₃ ls ls₂ ls₃ a i₁ i₂ p q = absurd (never then p)
 fork_divided b (some l) none node next then bs bs₂ bs₃ ls ls₂ ls₃ a i₁ i₂ p q = q
 fork_divided b (some l) (some r) node next then bs bs₂ bs₃ ls ls₂ ls₃ a i₁ i₂ p q = fork_laid b l r node next then bs bs₂ bs₃ ls ls₂ ls₃ a i₁ i₂ p q
 
-small_room : (g : Grown) (k next then : ℕ) {one : Made} → one ≡ Next then → Small k (some g) → one ≡ Next (next + 2 + below g.tree) → (next + 2 ≤ then) × (then ≤ next + 2 + 2 * (k - 1))
+small_room : (g : Grown) (k next then : ℕ) {one : Maybe ℕ} → one ≡ Some then → Small k (some g) → one ≡ Some (next + 2 + below g.tree) → (next + 2 ≤ then) × (then ≤ next + 2 + 2 * (k - 1))
 unfolding Small
 small_room g k next then e s q = let t : then ≡ next + 2 + below g.tree = next_same then (next + 2 + below g.tree) (sym e ∙ q) in (omega arith, omega arith)
 
 -- the left half too deep
 left_deep : (b : Aabb) (l r : Option Grown) (node next : ℕ) (bs bs₁ bs₂ bs₃ : List Float) (ls ls₁ ls₂ ls₃ : List ℕ) (i₁ i₂ : List ℕ)
-    → Divided l next (next + 2) bs₁ ls₁ Deep i₁ bs₂ ls₂ → Divided (joined b l r) node next bs ls Deep i₂ bs₃ ls₃
+    → Divided l next (next + 2) bs₁ ls₁ None i₁ bs₂ ls₂ → Divided (joined b l r) node next bs ls None i₂ bs₃ ls₃
 unfolding joined
 left_deep b none r node next bs bs₁ bs₂ bs₃ ls ls₁ ls₂ ls₃ i₁ i₂ p = refl
 left_deep b (some l) r node next bs bs₁ bs₂ bs₃ ls ls₁ ls₂ ls₃ i₁ i₂ p = absurd (never (next + 2 + below l.tree) (sym p.answer))
@@ -259,25 +258,25 @@ module _ (m : List Float) (d f : ℕ) (ids : List ℕ) (b : Aabb) (w : SplitDeci
   unfolding decision
   chosen = rw (← eb, ← eq) (sym ew)
 
-  tip_laid : (ls₁ : List ℕ) → ls₁ ≡ link_put ls node f (length ids) 1 → Laid (grown_as (leaf (node_box m ids) f (length ids)) ids) node next bs ls (Next next) ids bs₁ ls₁
+  tip_laid : (ls₁ : List ℕ) → ls₁ ≡ link_put ls node f (length ids) 1 → Laid (grown_as (leaf (node_box m ids) f (length ids)) ids) node next bs ls (Some next) ids bs₁ ls₁
   unfolding boxes_of links_of
   tip_laid ls₁ eL = record {
-    answer = ap Next (sym (add-zero next));
+    answer = ap Some (sym (add-zero next));
     index_is = refl;
     boxes_are = eB ∙ ap (λ (z : Aabb). box_put bs node z) eb;
     links_are = eL;
   }
 
-  pub divided_leaf : (ls₁ : List ℕ) → w ≡ MakeLeaf → ls₁ ≡ link_put ls node f (length ids) 1 → Divided (grow m d f ids) node next bs ls (Next next) ids bs₁ ls₁
+  pub divided_leaf : (ls₁ : List ℕ) → w ≡ MakeLeaf → ls₁ ≡ link_put ls node f (length ids) 1 → Divided (grow m d f ids) node next bs ls (Some next) ids bs₁ ls₁
   divided_leaf ls₁ e eL =
-      subst⁻¹ (λ (o : Option Grown). Divided o node next bs ls (Next next) ids bs₁ ls₁) (grow_leaf m d f ids (chosen ∙ e)) (tip_laid ls₁ eL)
+      subst⁻¹ (λ (o : Option Grown). Divided o node next bs ls (Some next) ids bs₁ ls₁) (grow_leaf m d f ids (chosen ∙ e)) (tip_laid ls₁ eL)
 
-  pub divided_deep : (a : ℕ) (p : Float) (xs : List ℕ) (bs₂ : List Float) (ls₂ : List ℕ) → w ≡ Split a p → d ≡ 0 → Divided (grow m d f ids) node next bs ls Deep xs bs₂ ls₂
+  pub divided_deep : (a : ℕ) (p : Float) (xs : List ℕ) (bs₂ : List Float) (ls₂ : List ℕ) → w ≡ Split a p → d ≡ 0 → Divided (grow m d f ids) node next bs ls None xs bs₂ ls₂
   divided_deep a p xs bs₂ ls₂ e z =
-      subst⁻¹ (λ (o : Option Grown). Divided o node next bs ls Deep xs bs₂ ls₂) (ap (λ (n : ℕ). grow m n f ids) z ∙ grow_deep m f ids a p (chosen ∙ e)) refl
+      subst⁻¹ (λ (o : Option Grown). Divided o node next bs ls None xs bs₂ ls₂) (ap (λ (n : ℕ). grow m n f ids) z ∙ grow_deep m f ids a p (chosen ∙ e)) refl
 
   -- a split: xs is the range rearranged, k where it is cut; i₁, bs₂, ls₂ are what the left half's division leaves
-  module _ (a : ℕ) (p : Float) (xs : List ℕ) (k : ℕ) (ls₁ : List ℕ) (one : Made) (i₁ : List ℕ) (bs₂ : List Float) (ls₂ : List ℕ)
+  module _ (a : ℕ) (p : Float) (xs : List ℕ) (k : ℕ) (ls₁ : List ℕ) (one : Maybe ℕ) (i₁ : List ℕ) (bs₂ : List Float) (ls₂ : List ℕ)
       (es : w ≡ Split a p) (ek : parts xs k ≡ separated m a p ids) (ed : d ≡ 0 → ⊥) (eL : ls₁ ≡ link_put ls node next 0 0)
       (D₁ : Divided (grow m (d - 1) f (take (k - 0) xs)) next (next + 2) bs₁ ls₁ one i₁ bs₂ ls₂) where
     one_less : suc (d - 1) ≡ d
@@ -294,24 +293,24 @@ module _ (m : List Float) (d f : ℕ) (ids : List ℕ) (b : Aabb) (w : SplitDeci
         (subst (λ (z : List ℕ). Divided (grow m (d - 1) f (take k xs)) next (next + 2) bs₁ z one i₁ bs₂ ls₂) eL
         (subst (λ (n : ℕ). Divided (grow m (d - 1) f (take n xs)) next (next + 2) bs₁ ls₁ one i₁ bs₂ ls₂) (sub-zero k) D₁))
 
-    pub divided_left : (i₂ : List ℕ) (bs₃ : List Float) (ls₃ : List ℕ) → one ≡ Deep → Divided (grow m d f ids) node next bs ls Deep i₂ bs₃ ls₃
+    pub divided_left : (i₂ : List ℕ) (bs₃ : List Float) (ls₃ : List ℕ) → one ≡ None → Divided (grow m d f ids) node next bs ls None i₂ bs₃ ls₃
     divided_left i₂ bs₃ ls₃ e =
-        subst⁻¹ (λ (o : Option Grown). Divided o node next bs ls Deep i₂ bs₃ ls₃) forked
+        subst⁻¹ (λ (o : Option Grown). Divided o node next bs ls None i₂ bs₃ ls₃) forked
         (left_deep (node_box m ids) (grow m (d - 1) f (take k xs)) (grow m (d - 1) (f + k) (drop k xs)) node next bs (box_put bs node (node_box m ids)) bs₂ bs₃ ls (link_put ls node next 0 0) ls₂ ls₃ i₁ i₂
-        (subst (λ (r : Made). Divided (grow m (d - 1) f (take k xs)) next (next + 2) (box_put bs node (node_box m ids)) (link_put ls node next 0 0) r i₁ bs₂ ls₂) e first_half))
+        (subst (λ (r : Maybe ℕ). Divided (grow m (d - 1) f (take k xs)) next (next + 2) (box_put bs node (node_box m ids)) (link_put ls node next 0 0) r i₁ bs₂ ls₂) e first_half))
 
-    pub divided_both : (then : ℕ) (r : Made) (ys i₂ zs : List ℕ) (bs₃ : List Float) (ls₃ : List ℕ) → one ≡ Next then → ys ≡ drop k xs
+    pub divided_both : (then : ℕ) (r : Maybe ℕ) (ys i₂ zs : List ℕ) (bs₃ : List Float) (ls₃ : List ℕ) → one ≡ Some then → ys ≡ drop k xs
         → Divided (grow m (d - 1) (f + k) ys) (next + 1) then bs₂ ls₂ r i₂ bs₃ ls₃ → zs ≡ i₁ ++ i₂
         → Divided (grow m d f ids) node next bs ls r zs bs₃ ls₃
     divided_both then r ys i₂ zs bs₃ ls₃ e ey D₂ ez =
         subst⁻¹ (λ (o : Option Grown). Divided o node next bs ls r zs bs₃ ls₃) forked
         (subst⁻¹ (λ (z : List ℕ). Divided (joined (node_box m ids) (grow m (d - 1) f (take k xs)) (grow m (d - 1) (f + k) (drop k xs))) node next bs ls r z bs₃ ls₃) ez
         (fork_divided (node_box m ids) (grow m (d - 1) f (take k xs)) (grow m (d - 1) (f + k) (drop k xs)) node next then bs bs₂ bs₃ ls ls₂ ls₃ r i₁ i₂
-        (subst (λ (o : Made). Divided (grow m (d - 1) f (take k xs)) next (next + 2) (box_put bs node (node_box m ids)) (link_put ls node next 0 0) o i₁ bs₂ ls₂) e first_half)
+        (subst (λ (o : Maybe ℕ). Divided (grow m (d - 1) f (take k xs)) next (next + 2) (box_put bs node (node_box m ids)) (link_put ls node next 0 0) o i₁ bs₂ ls₂) e first_half)
         (subst (λ (z : List ℕ). Divided (grow m (d - 1) (f + k) z) (next + 1) then bs₂ ls₂ r i₂ bs₃ ls₃) ey D₂)))
 
     -- how far the left half's nodes reach
-    pub then_room : (then : ℕ) → one ≡ Next then → k ≤ length xs → (next + 2 ≤ then) × (then ≤ next + 2 + 2 * (k - 1))
+    pub then_room : (then : ℕ) → one ≡ Some then → k ≤ length xs → (next + 2 ≤ then) × (then ≤ next + 2 + 2 * (k - 1))
     then_room then e h =
         go (grow m (d - 1) f (take k xs)) (subst (λ (n : ℕ). Small n (grow m (d - 1) f (take k xs))) (length-take-le k xs h) (small_grow m (d - 1) f (take k xs))) first_half
       where

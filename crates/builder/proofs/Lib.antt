@@ -1,8 +1,7 @@
 mod RangePasses
 mod Halves
 mod BinsFilled
-mod Lanes
-mod ThreeAxes
+mod Filling
 mod Choosing
 mod Sweeping
 mod Parting

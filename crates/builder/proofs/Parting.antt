@@ -9,12 +9,18 @@ use mathlib.Core.List.{List}
 use lib.ListN.{length, get_or, length-set}
 use lib.Ieee.{Float, lt}
 use Rattle.triangle.specs.Mesh.{centroid_at}
-use Rattle.triangle.proofs.Admitting.{one_more}
+use Rattle.lent.proofs.Lowest.{one_more}
+use Rattle.std.specs.List.{swap}
+use Rattle.std.proofs.lemmas.List.Edits.{swap_is}
 use Rattle.builder.specs.Partition.{Parted, keeps_left, moves, parted, parts, swapped}
 
 -- ---- an exchange
 pub length_swap : (xs : List ℕ) (a b : ℕ) → length (swapped xs a b) ≡ length xs
 length_swap xs a b = simp length-set
+
+-- of a slice, by its method
+pub swapped_by : (xs ys : List ℕ) (a b : ℕ) → a < length xs → b < length xs → ys ≡ swap xs a b → ys ≡ swapped xs a b
+swapped_by xs ys a b h g e = e ∙ sym (swap_is xs a b 0 h g)
 
 -- ---- the loop of the partition
 pick_by : {A : Type 0} (P : A → Type 0) (t : Bool) (x y : A) → P x → P y → P (elim t [ true ↦ x | false ↦ y ])

@@ -12,8 +12,7 @@ use borrow.Rule.Slice.PartMut.{post_of}
 use Rattle.float.specs.Number.{nought}
 use Rattle.triangle.specs.Mesh.{first_refused, unadmitted}
 use Rattle.builder.specs.Reply.{Reply, served_reply, refused_reply}
-use Rattle.builder.specs.declared.division.Made.{Made}
-use Rattle.builder.specs.declared.division.Made.TheVariants.{Deep, Next}
+use Rattle.std.specs.Prelude.{Option as Maybe, Some, None}
 use Rattle.lent.specs.Permutation.{up_to}
 use Rattle.lent.specs.Ladder.{triangle_count}
 use Rattle.lent.proofs.Ladder.{Ends, ends, goes, agree, not_below}
@@ -39,8 +38,8 @@ alike a a' xs xs' bs bs' ls ls' p q r s = cc
 grew : (n k : ℕ) (e : n ≡ k) → served_reply n (n / 2 + 1) ≡ served_reply k (k / 2 + 1)
 grew n k e = ap (λ (z : ℕ). served_reply z (z / 2 + 1)) e
 
-pub made_done : (n k : ℕ) (o : Option Grown) (r : Made) (xs d zs : List ℕ) (bs bs₁ : List Float) (ls ls₁ : List ℕ)
-    → Divided o 0 1 bs ls r d bs₁ ls₁ → r ≡ Next k → zs ≡ d ++ drop n xs → outcome (served_reply k (k / 2 + 1)) zs bs₁ ls₁ ≡ finished n o xs bs ls
+pub made_done : (n k : ℕ) (o : Option Grown) (r : Maybe ℕ) (xs d zs : List ℕ) (bs bs₁ : List Float) (ls ls₁ : List ℕ)
+    → Divided o 0 1 bs ls r d bs₁ ls₁ → r ≡ Some k → zs ≡ d ++ drop n xs → outcome (served_reply k (k / 2 + 1)) zs bs₁ ls₁ ≡ finished n o xs bs ls
 unfolding finished
 made_done n k none r xs d zs bs bs₁ ls ls₁ D e q = absurd (never k (sym e ∙ D))
 made_done n k (some g) r xs d zs bs bs₁ ls ls₁ D e q =
@@ -48,8 +47,8 @@ made_done n k (some g) r xs d zs bs bs₁ ls ls₁ D e q =
     (grew k (1 + below g.tree) (next_same k (1 + below g.tree) (sym e ∙ D.answer)) ∙ ap (λ (z : ℕ). served_reply (1 + below g.tree) z) (leaves_are g.tree))
     (q ∙ ap (λ (z : List ℕ). z ++ drop n xs) D.index_is) D.boxes_are D.links_are
 
-pub made_deep : (n : ℕ) (o : Option Grown) (r : Made) (xs d zs : List ℕ) (bs bs₁ bs₂ : List Float) (ls ls₁ ls₂ : List ℕ)
-    → Divided o 0 1 bs ls r d bs₁ ls₁ → r ≡ Deep → zs ≡ replicate (length xs) 0 → bs₂ ≡ replicate (length bs) nought → ls₂ ≡ replicate (length ls) 0
+pub made_deep : (n : ℕ) (o : Option Grown) (r : Maybe ℕ) (xs d zs : List ℕ) (bs bs₁ bs₂ : List Float) (ls ls₁ ls₂ : List ℕ)
+    → Divided o 0 1 bs ls r d bs₁ ls₁ → r ≡ None → zs ≡ replicate (length xs) 0 → bs₂ ≡ replicate (length bs) nought → ls₂ ≡ replicate (length ls) 0
     → outcome (refused_reply 6 0) zs bs₂ ls₂ ≡ finished n o xs bs ls
 unfolding finished
 made_deep n none r xs d zs bs bs₁ bs₂ ls ls₁ ls₂ D e p q s = alike (refused_reply 6 0) (refused_reply 6 0) zs (replicate (length xs) 0) bs₂ (replicate (length bs) nought) ls₂ (replicate (length ls) 0) refl p q s

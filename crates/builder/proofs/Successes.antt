@@ -13,7 +13,7 @@ use lib.Ieee.{Float, nan, neg, le, eq, of_bits}
 use borrow.Author.Tests.{eqb-true, ltb-false, not-false}
 use Rattle.aabb.specs.Bounds.{bounded, empty_box, is_empty, usable}
 use Rattle.aabb.specs.Vector.{all_at_most, all_equal, all_within, within}
-use Rattle.triangle.specs.declared.Unadmitted.TheVariants.{Nothing}
+use Rattle.std.specs.Prelude.{None}
 use Rattle.triangle.specs.Mesh.{admitted_triangle, triangle_at, first_refused}
 use Rattle.triangle.proofs.Admitting.{none_unadmitted, none_refused}
 use Rattle.lent.specs.Permutation.{up_to}
@@ -47,7 +47,7 @@ pub record Success (mesh : List Float) (index : List ℕ) (boxes : List Float) (
   pub index_room : length mesh / 12 ≤ length index
   pub box_room : room (length mesh / 12) ≤ length boxes / 6
   pub link_room : room (length mesh / 12) ≤ length links / 3
-  pub all_admitted : first_refused mesh 0 (length mesh / 12) ≡ Nothing
+  pub all_admitted : first_refused mesh 0 (length mesh / 12) ≡ None
   pub grown : Grown
   pub grew : grow mesh deepest 0 (up_to (length mesh / 12)) ≡ some grown
   pub nodes_are : nodes ≡ 1 + below grown.tree
@@ -69,7 +69,7 @@ module _ (mesh : List Float) (index : List ℕ) (boxes : List Float) (links : Li
     pub index_room : triangle_count mesh ≤ length index
     pub box_room : room (triangle_count mesh) ≤ length boxes / 6
     pub link_room : room (triangle_count mesh) ≤ length links / 3
-    pub all_admitted : first_refused mesh 0 (triangle_count mesh) ≡ Nothing
+    pub all_admitted : first_refused mesh 0 (triangle_count mesh) ≡ None
     pub rest : finished (triangle_count mesh) (grow mesh deepest 0 (up_to (triangle_count mesh))) index boxes links ≡ o
 
   passed : built mesh index boxes links ≡ o → Passed

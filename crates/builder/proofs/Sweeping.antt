@@ -1,4 +1,4 @@
--- Laws of the right sides of a sweep: the bins of a lane joined from its right end, their number and their weight. Assumes nothing.
+-- Laws of the right sides of a sweep: the bins of an axis joined from its right end, their number and their weight. Assumes nothing.
 use mathlib.Core.Path.{◌≡◌, refl, sym, ◌∙◌, ap}
 use Prim.Native.Nat.{ℕ, zero, suc, ◌+◌, ◌-◌, ◌≤◌, ◌<◌}
 use native.Mathlib.Omega.{arith}
@@ -9,21 +9,10 @@ use lib.ListN.{length, get_or, set, drop, drop_of_length-le}
 use lib.Seq.{drop-cons, get_or-set_same, get_or-set_other}
 use lib.Ieee.{Float, nan}
 use Rattle.builder.specs.declared.bins.Bin.{Bin}
+use Rattle.builder.specs.declared.split.Side.{Side}
 use Rattle.builder.specs.Bins.{blank, join_bins, no_bin, suffix_of}
 use Rattle.builder.specs.Choice.{weight}
-use Rattle.builder.specs.inner.Lanes.{bin_at, lane}
 use Rattle.float.proofs.Cases.{same?}
-use Rattle.builder.proofs.Lanes.{lane_get}
-
--- ---- a lane
-pub lane_length : (boxes : List Float) (counts : List ℕ) (from n : ℕ) → length (lane boxes counts from n) ≡ n
-unfolding lane
-lane_length boxes counts from zero = refl
-lane_length boxes counts from (suc n) = omega (arith, lane_length boxes counts (suc from) n)
-
--- the bin at a place, as the lane's
-pub lane_bin : (boxes : List Float) (counts : List ℕ) (from j : ℕ) (b : Bin) → j < 16 → b ≡ bin_at boxes counts (from + j) → b ≡ get_or (lane boxes counts from 16) j blank
-lane_bin boxes counts from j b h p = p ∙ sym (lane_get boxes counts from 16 j h)
 
 -- ---- counts
 pub none_number : (b : Bin) → b ≡ no_bin → b.count ≡ 0
@@ -34,20 +23,32 @@ pub join_number : (a b w : Bin) → w ≡ join_bins a b → w.count ≡ a.count 
 unfolding join_bins
 join_number a b w p = ap (λ (z : Bin). z.count) p
 
-pub at_number : (boxes : List Float) (counts : List ℕ) (k : ℕ) (b : Bin) → b ≡ bin_at boxes counts k → b.count ≡ get_or counts k 0
-unfolding bin_at
-at_number boxes counts k b p = ap (λ (z : Bin). z.count) p
+-- ---- the sides: from k on, what is asked of the bins joined from the right end
+unfoldable pub side_of : Bin → Side
+side_of b = record { count = b.count; weight = weight b }
 
--- ---- the sides: from k on, the number and the weight of the bins joined from the right end
-pub record Sides (bs : List Bin) (numbers : List ℕ) (weights : List Float) (k : ℕ) : Type 0 where
-  pub number : (j : ℕ) → k ≤ j → j < 16 → (suffix_of (drop j bs)).count ≡ get_or numbers j 0
-  pub weighed : (j : ℕ) → k ≤ j → j < 16 → weight (suffix_of (drop j bs)) ≡ get_or weights j nan
+-- what an array of sides reads as past its end
+abbrev pub blank_side : Side
+blank_side = record { count = 0; weight = nan }
 
-pub sides_start : (bs : List Bin) (numbers : List ℕ) (weights : List Float) → Sides bs numbers weights 16
-sides_start bs numbers weights = record { number = λ j h k. absurd (omega arith); weighed = λ j h k. absurd (omega arith) }
+unfoldable pub Sides : List Bin → List Side → ℕ → Type 0
+Sides bs sides k = (j : ℕ) → k ≤ j → j < 16 → side_of (suffix_of (drop j bs)) ≡ get_or sides j blank_side
 
-pub sides_most : (bs : List Bin) (numbers : List ℕ) (weights : List Float) (k i : ℕ) → k ≤ i → Sides bs numbers weights k → Sides bs numbers weights i
-sides_most bs numbers weights k i h f = record { number = λ j p q. f.number j (omega arith) q; weighed = λ j p q. f.weighed j (omega arith) q }
+pub sides_start : (bs : List Bin) (sides : List Side) → Sides bs sides 16
+unfolding Sides
+sides_start bs sides j h k = absurd (omega arith)
+
+pub sides_most : (bs : List Bin) (sides : List Side) (k i : ℕ) → k ≤ i → Sides bs sides k → Sides bs sides i
+unfolding Sides
+sides_most bs sides k i h f j p q = f j (omega arith) q
+
+pub side_number : (bs : List Bin) (sides : List Side) (k j : ℕ) → Sides bs sides k → k ≤ j → j < 16 → (suffix_of (drop j bs)).count ≡ (get_or sides j blank_side).count
+unfolding Sides side_of
+side_number bs sides k j f p q = ap (λ (z : Side). z.count) (f j p q)
+
+pub side_weight : (bs : List Bin) (sides : List Side) (k j : ℕ) → Sides bs sides k → k ≤ j → j < 16 → weight (suffix_of (drop j bs)) ≡ (get_or sides j blank_side).weight
+unfolding Sides side_of
+side_weight bs sides k j f p q = ap (λ (z : Side). z.weight) (f j p q)
 
 pub suffix_start : (bs : List Bin) (run : Bin) → run ≡ no_bin → length bs ≡ 16 → run ≡ suffix_of (drop 16 bs)
 unfolding suffix_of
@@ -70,10 +71,8 @@ module _ {A : Type 0} (f : Bin → A) (out : A) (bs : List Bin) (xs : List A) (r
       (λ n. old j (omega arith) i ∙ sym (get_or-set_other xs k j x out n))
       (same? j k)
 
-pub sides_next : (bs : List Bin) (numbers : List ℕ) (weights : List Float) (run : Bin) (k : ℕ) (w : Float) → 0 < k → k ≤ 16 → length numbers ≡ 16 → length weights ≡ 16 → run ≡ suffix_of (drop (k - 1) bs) → w ≡ weight run
-    → Sides bs numbers weights k → Sides bs (set numbers (k - 1) run.count) (set weights (k - 1) w) (k - 1)
-sides_next bs numbers weights run k w h i ln lw e q f =
-    record {
-      number = told (λ (z : Bin). z.count) 0 bs numbers run (k - 1) run.count ln (omega arith) e refl (λ j p o. f.number j (omega arith) o);
-      weighed = told weight nan bs weights run (k - 1) w lw (omega arith) e q (λ j p o. f.weighed j (omega arith) o);
-    }
+pub sides_next : (bs : List Bin) (sides : List Side) (run : Bin) (k : ℕ) (w : Float) → 0 < k → k ≤ 16 → length sides ≡ 16 → run ≡ suffix_of (drop (k - 1) bs) → w ≡ weight run
+    → Sides bs sides k → Sides bs (set sides (k - 1) (record { count = run.count; weight = w })) (k - 1)
+unfolding Sides side_of
+sides_next bs sides run k w h i l e q f =
+    told side_of blank_side bs sides run (k - 1) (record { count = run.count; weight = w }) l (omega arith) e (ap (λ (z : Float). record { count = run.count; weight = z }) q) (λ j p o. f j (omega arith) o)

@@ -1,10 +1,8 @@
 -- A tree laid out in the lent lists (rules C6 and C7): its root at `node`, what is below it from `next` on. Definitions only.
-use Rattle.std.specs.Prelude.{ℕ, ◌+◌, ◌≡◌, List, [], ◌∷◌, Float}
+use Rattle.std.specs.Prelude.{ℕ, ◌+◌, ◌≡◌, List, [], ◌∷◌, Float, Option as Maybe, Some, None}
 use Rattle.std.proofs.Math.Option.{Option, none, some}
 use Rattle.lent.specs.Flat.{put}
 use Rattle.aabb.specs.declared.bounds.Aabb.{Aabb}
-use Rattle.builder.specs.declared.division.Made.{Made}
-use Rattle.builder.specs.declared.division.Made.TheVariants.{Next, Deep}
 use Rattle.tree.specs.Tree.{Tree, leaf, internal, below}
 use Rattle.builder.specs.Tree.{Grown}
 
@@ -29,12 +27,12 @@ links_of (leaf b f c) node next links = link_put links node f c 1
 links_of (internal b l r) node next links = links_of r (next + 1) (next + 2 + below l) (links_of l next (next + 2) (link_put links node next 0 0))
 
 -- what `subdivide` answers and leaves, of a grown tree or of one too deep
-pub record Laid (g : Grown) (node next : ℕ) (boxes : List Float) (links : List ℕ) (r : Made) (index' : List ℕ) (boxes' : List Float) (links' : List ℕ) : Type 0 where
-  pub answer : r ≡ Next (next + below g.tree)
+pub record Laid (g : Grown) (node next : ℕ) (boxes : List Float) (links : List ℕ) (r : Maybe ℕ) (index' : List ℕ) (boxes' : List Float) (links' : List ℕ) : Type 0 where
+  pub answer : r ≡ Some (next + below g.tree)
   pub index_is : index' ≡ g.ids
   pub boxes_are : boxes' ≡ boxes_of g.tree node next boxes
   pub links_are : links' ≡ links_of g.tree node next links
 
-abbrev pub Divided : Option Grown → ℕ → ℕ → List Float → List ℕ → Made → List ℕ → List Float → List ℕ → Type 0
-Divided none node next boxes links r index' boxes' links' = r ≡ Deep
+abbrev pub Divided : Option Grown → ℕ → ℕ → List Float → List ℕ → Maybe ℕ → List ℕ → List Float → List ℕ → Type 0
+Divided none node next boxes links r index' boxes' links' = r ≡ None
 Divided (some g) node next boxes links r index' boxes' links' = Laid g node next boxes links r index' boxes' links'

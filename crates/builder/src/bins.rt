@@ -1,21 +1,26 @@
 // The sixteen bins of each axis, each with a count and a box: how they are filled, three axes in one pass.
-ghost use Rattle.std.specs.Prelude.{◌≡◌, ℕ, ◌+◌, ◌*◌, ◌/◌, ◌≤◌, ◌<◌, length, get_or, set, replicate};
-ghost use Rattle.float.specs.Number.{infinity};
-ghost use Rattle.aabb.specs.Vector.{along};
-ghost use Rattle.aabb.specs.Bounds.{Clear, union, box_at};
+ghost use Rattle.std.specs.Prelude.{◌≡◌, ◌+◌, ◌/◌, ◌≤◌, ◌<◌, length, replicate};
+ghost use Rattle.aabb.specs.Bounds.{Clear};
 ghost use Rattle.lent.specs.Limits.{most_triangles};
 ghost use Rattle.builder.specs.Range.{Numbered};
-ghost use Rattle.builder.specs.Layout.{box_put};
-ghost use Rattle.builder.specs.Bins.{whole, no_bin, join_bins, bin_of, filled};
-ghost use Rattle.builder.specs.inner.Lanes.{bin_at, lane, Lanes, Vacant, OneMore};
+ghost use Rattle.builder.specs.Bins.{whole, no_bin, with_box, join_bins, bin_of, with_one, filled};
+ghost use Rattle.builder.specs.inner.Held.{Held};
 
-use crate::{nodes, range};
+use crate::range;
 use aabb::{Aabb, Vec3};
 
 #[derive(Clone, Copy)]
 pub struct Bin {
     pub count: u32,
     pub bounds: Aabb,
+}
+
+// The bins of each axis.
+#[derive(Clone, Copy)]
+pub struct Axes {
+    pub x: [Bin; 16],
+    pub y: [Bin; 16],
+    pub z: [Bin; 16],
 }
 
 impl Bin {
@@ -33,6 +38,18 @@ impl Bin {
         let bounds = self.bounds.joined(other.bounds);
         Bin {
             count: self.count + other.count,
+            bounds,
+        }
+    }
+
+    // One triangle more, whose box is given.
+    pub fn with(self, b: Aabb) -> Bin
+        requires { (self.count ≤ most_triangles) × Clear self.bounds }
+        ensures { result ≡ with_box self b }
+    {
+        let bounds = self.bounds.joined(b);
+        Bin {
+            count: self.count + 1,
             bounds,
         }
     }
@@ -72,81 +89,31 @@ pub fn bin_of(x: f64) -> usize
     one.first
 }
 
-// Bin k of the lent bins, six numbers of box each and a count.
-pub fn bin_at(boxes: &[f64; 288], counts: &[u32; 48], k: usize) -> Bin
-    requires { (k < 48) × (length counts.now ≡ 48) }
-    ensures { result ≡ bin_at boxes.now counts.now k }
+// One triangle more in the bin of x, whose box is given.
+pub fn put(bins: &mut [Bin; 16], x: f64, b: Aabb)
+    requires { Held most_triangles bins.old }
+    ensures { bins.new ≡ with_one bins.old (bin_of 15 x) b }
 {
-    let bounds = Aabb::read(boxes, k);
-    Bin {
-        count: counts[k],
-        bounds,
-    }
+    let k = bin_of(x);
+    bins[k] = bins[k].with(b);
 }
 
-// Boxes that hold +inf everywhere become the empty box, each: only half of the numbers is written again.
-pub fn vacate(boxes: &mut [f64; 288])
-    requires { boxes.old ≡ replicate 288 infinity }
-    ensures { Vacant boxes.new (replicate 48 0) }
-{
-    let far = -float::infinity();
-    let mut k: usize = 0;
-    while k < 48 {
-        boxes[k * 6 + 3] = far;
-        boxes[k * 6 + 4] = far;
-        boxes[k * 6 + 5] = far;
-        k += 1;
-    }
-}
-
-// One triangle more in bin k, whose box is given.
-pub fn put(boxes: &mut [f64; 288], counts: &mut [u32; 48], k: usize, b: Aabb)
-    requires { (k < 48) × Lanes (most_triangles + 1) boxes.old counts.old }
-    ensures boxes_after { boxes.new ≡ box_put boxes.old k (union (box_at boxes.old k) b) }
-    ensures counts_after { counts.new ≡ set counts.old k (get_or counts.old k 0 + 1) }
-{
-    let run = Aabb::read(boxes, k);
-    nodes::put_box(boxes, k, run.joined(b));
-    counts[k] += 1;
-}
-
-// One triangle more in its bin of each axis, whose box is given: `at` is how far its centroid is from the first bin, in bins. Bin k of an axis stands at axis·16 + k.
-fn put_on_axes(boxes: &mut [f64; 288], counts: &mut [u32; 48], at: Vec3, b: Aabb)
-    requires { Lanes most_triangles boxes.old counts.old }
-    ensures { OneMore at b boxes.old counts.old boxes.new counts.new }
-{
-    let x = bin_of(at.x);
-    let y = bin_of(at.y);
-    let z = bin_of(at.z);
-    put(boxes, counts, x, b);
-    put(boxes, counts, 16 + y, b);
-    put(boxes, counts, 32 + z, b);
-}
-
-// The bins of the three axes in one pass over the range.
-pub fn fill(
-    triangles: &[f64],
-    index: &[u32],
-    min: Vec3,
-    scale: Vec3,
-    boxes: &mut [f64; 288],
-    counts: &mut [u32; 48],
-)
+// The empty bins of the three axes are filled in one pass over the range. How far a centroid is from the first bin of an axis, in bins, tells its bin.
+pub fn fill(triangles: &[f64], index: &[u32], min: Vec3, scale: Vec3, bins: &mut Axes)
     requires numbered { Numbered triangles.now index.now }
-    requires index_len_bound { (length index.now ≤ most_triangles) × Vacant boxes.old counts.old }
-    ensures lanes { Lanes most_triangles boxes.new counts.new }
-    ensures by_index { (a : ℕ) → a < 3 → lane boxes.new counts.new (a * 16) 16 ≡ filled triangles.now a (along a min) (along a scale) (replicate 16 no_bin) index.now }
+    requires index_len_bound { length index.now ≤ most_triangles }
+    requires empty { (bins.old.x ≡ replicate 16 no_bin) × (bins.old.y ≡ replicate 16 no_bin) × (bins.old.z ≡ replicate 16 no_bin) }
+    ensures held { Held most_triangles bins.new.x × Held most_triangles bins.new.y × Held most_triangles bins.new.z }
+    ensures on_x { bins.new.x ≡ filled triangles.now 0 min.x scale.x (replicate 16 no_bin) index.now }
+    ensures on_y { bins.new.y ≡ filled triangles.now 1 min.y scale.y (replicate 16 no_bin) index.now }
+    ensures on_z { bins.new.z ≡ filled triangles.now 2 min.z scale.z (replicate 16 no_bin) index.now }
 {
-    let mut i: usize = 0;
-    while i < index.len() {
-        let t = range::corners(triangles, index[i]);
+    for i in index {
+        let t = range::corners(triangles, *i);
         let c = t.centroid();
-        let at = Vec3 {
-            x: (c.x - min.x) * scale.x,
-            y: (c.y - min.y) * scale.y,
-            z: (c.z - min.z) * scale.z,
-        };
-        put_on_axes(boxes, counts, at, range::box_of(t));
-        i += 1;
+        let b = range::box_of(t);
+        put(&mut bins.x, (c.x - min.x) * scale.x, b);
+        put(&mut bins.y, (c.y - min.y) * scale.y, b);
+        put(&mut bins.z, (c.z - min.z) * scale.z, b);
     }
 }

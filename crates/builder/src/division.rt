@@ -8,15 +8,9 @@ ghost use Rattle.builder.specs.Layout.{Divided};
 use crate::split::SplitDecision;
 use crate::{nodes, partition, range, split};
 
-// The next free node number, or that the tree is too deep.
-#[derive(Clone, Copy)]
-pub enum Made {
-    Next(usize),
-    Deep,
-}
-
 // The range, whose first stands at `first` of the index list, is divided as the tree at `node`. Nodes from `next` on are free, and `below` levels may
-// still come below it. The children's numbers are the next two; the left side is done, with all below it, before the right is begun (rule C6).
+// still come below it. The children's numbers are the next two; the left side is done, with all below it, before the right is begun (rule C6). The
+// answer is the next free node number; none where the tree is too deep.
 pub fn subdivide(
     triangles: &[f64],
     index: &mut [u32],
@@ -26,7 +20,7 @@ pub fn subdivide(
     first: usize,
     next: usize,
     below: usize,
-) -> Made
+) -> Option<usize>
     requires numbered { Numbered triangles.now index.old }
     requires index_bound { (first + length index.old ≤ most_triangles) × (node < next) × (next + 2 * (length index.old - 1) ≤ most_nodes) }
     requires index_in_bounds { ((next + 2 * (length index.old - 1)) * 6 ≤ length boxes.old) × ((next + 2 * (length index.old - 1)) * 3 ≤ length links.old) }
@@ -37,14 +31,14 @@ pub fn subdivide(
     let decision = split::find_best_split(triangles, index, hull);
     let SplitDecision::Split { axis, position } = decision else {
         nodes::put_link(links, node, first as u32, index.len() as u32, 1);
-        return Made::Next(next);
+        return Some(next);
     };
     if below == 0 {
-        return Made::Deep;
+        return None;
     }
     let left = partition::separate(triangles, index, axis, position);
     nodes::put_link(links, node, next as u32, 0, 0);
-    let one = subdivide(
+    let then = subdivide(
         triangles,
         &mut index[0..left],
         boxes,
@@ -53,10 +47,7 @@ pub fn subdivide(
         first,
         next + 2,
         below - 1,
-    );
-    let Made::Next(then) = one else {
-        return Made::Deep;
-    };
+    )?;
     subdivide(
         triangles,
         &mut index[left..],

@@ -18,15 +18,14 @@ ghost use Rattle.lent.specs.Permutation.{up_to};
 ghost use Rattle.builder.specs.Reply.{reply};
 ghost use Rattle.builder.specs.Build.{outcome, finished, built};
 
-use division::Made;
-pub use start::{clear_floats, room};
-use triangle::Unadmitted;
+use lent::{Reason, Refused};
+pub use start::room;
 
-// What a build answers: the tree's node count and leaf count, or a refusal's number and its `at`.
-#[derive(Clone, Copy)]
-pub enum Built {
-    Tree { nodes: usize, leaves: usize },
-    Refused { number: u32, at: usize },
+// How many nodes and leaves a built tree has.
+#[derive(Clone, Copy, Debug, PartialEq, Eq)]
+pub struct Built {
+    pub nodes: usize,
+    pub leaves: usize,
 }
 
 // The tree of the triangles, twelve numbers each: v0, v1, v2, normal. On success `index` has the triangle numbers, each leaf's in one range,
@@ -35,35 +34,45 @@ pub enum Built {
 // many); 3 less index room than one a triangle; 4 room for fewer nodes than the triangles can have, in boxes or in links (at: how many,
 // 2n-1 or 1); 5 a triangle isn't admitted (at: the lowest such number); 6 the tree would go deeper than 63. Refusals 1 to 5 write nothing;
 // after 6 every number that was lent to be written is zero.
-pub fn build(triangles: &[f64], index: &mut [u32], boxes: &mut [f64], links: &mut [u32]) -> Built
+pub fn build(
+    triangles: &[f64],
+    index: &mut [u32],
+    boxes: &mut [f64],
+    links: &mut [u32],
+) -> Result<Built, Refused>
     ensures { outcome (reply result) index.new boxes.new links.new ≡ built triangles.now index.old boxes.old links.old }
 {
     if triangles.len() % 12 != 0 {
-        return Built::Refused { number: 1, at: 0 };
+        return Err(Refused {
+            reason: Reason::Ragged,
+            at: 0,
+        });
     }
     let n = triangles.len() / 12;
     if lent::MOST_TRIANGLES < n {
-        return Built::Refused { number: 2, at: n };
+        return Err(Refused {
+            reason: Reason::Crowded,
+            at: n,
+        });
     }
     if index.len() < n {
-        return Built::Refused { number: 3, at: 0 };
+        return Err(Refused {
+            reason: Reason::ShortIndex,
+            at: 0,
+        });
     }
     let room = start::room(n as u32);
-    if boxes.len() / 6 < room {
-        return Built::Refused {
-            number: 4,
+    if boxes.len() / 6 < room || links.len() / 3 < room {
+        return Err(Refused {
+            reason: Reason::ShortTree,
             at: room,
-        };
+        });
     }
-    if links.len() / 3 < room {
-        return Built::Refused {
-            number: 4,
-            at: room,
-        };
-    }
-    let bad = triangle::first_refused(triangles, n);
-    if let Unadmitted::At(i) = bad {
-        return Built::Refused { number: 5, at: i };
+    if let Some(at) = triangle::first_refused(triangles, n) {
+        return Err(Refused {
+            reason: Reason::BadTriangle,
+            at,
+        });
     }
     make(triangles, index, boxes, links, n)
 }
@@ -75,13 +84,13 @@ fn make(
     boxes: &mut [f64],
     links: &mut [u32],
     n: usize,
-) -> Built
+) -> Result<Built, Refused>
     requires n_in_bounds { n ≤ length triangles.now / 12 }
     requires n_le_most_triangles { (n ≤ most_triangles) × (n ≤ length index.old) × ((1 + 2 * (n - 1)) * 6 ≤ length boxes.old) × ((1 + 2 * (n - 1)) * 3 ≤ length links.old) }
     ensures { outcome (reply result) index.new boxes.new links.new ≡ finished n (grow triangles.now deepest 0 (up_to n)) index.old boxes.old links.old }
 {
     start::count_up(&mut index[0..n]);
-    let made = division::subdivide(
+    let Some(nodes) = division::subdivide(
         triangles,
         &mut index[0..n],
         boxes,
@@ -90,13 +99,15 @@ fn make(
         0,
         1,
         lent::DEEPEST,
-    );
-    let Made::Next(nodes) = made else {
-        start::clear(index);
-        start::clear_floats(boxes);
-        start::clear(links);
-        return Built::Refused { number: 6, at: 0 };
+    ) else {
+        index.fill(0);
+        boxes.fill(0.0);
+        links.fill(0);
+        return Err(Refused {
+            reason: Reason::Deep,
+            at: 0,
+        });
     };
     let leaves = nodes / 2 + 1;
-    Built::Tree { nodes, leaves }
+    Ok(Built { nodes, leaves })
 }

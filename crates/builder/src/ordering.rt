@@ -40,10 +40,8 @@ pub fn is_ahead(a: Ranked, b: Ranked) -> bool
 {
     let x = a.centroid;
     let y = b.centroid;
-    if x == y {
-        if x != 0.0 {
-            return a.number < b.number;
-        }
+    if x == y && x != 0.0 {
+        return a.number < b.number;
     }
     if x < y {
         return true;
@@ -51,13 +49,7 @@ pub fn is_ahead(a: Ranked, b: Ranked) -> bool
     if y < x {
         return false;
     }
-    if float::total_less(x, y) {
-        return true;
-    }
-    if float::total_less(y, x) {
-        return false;
-    }
-    a.number < b.number
+    float::total_less(x, y) || !float::total_less(y, x) && a.number < b.number
 }
 
 // The greater child of place i of the heap.
@@ -77,14 +69,15 @@ pub fn greater_child(triangles: &[f64], index: &[u32], axis: usize, i: usize) ->
     let r = l + 1;
     let right = Ranked::of(triangles, axis, index[r]);
     if is_ahead(left, right) {
-        return Child {
+        Child {
             place: r,
             own: right,
-        };
-    }
-    Child {
-        place: l,
-        own: left,
+        }
+    } else {
+        Child {
+            place: l,
+            own: left,
+        }
     }
 }
 
@@ -99,13 +92,11 @@ pub fn sift(triangles: &[f64], index: &mut [u32], axis: usize, at: usize)
     let mut i = at;
     while 2 * i + 1 < index.len() {
         let g = greater_child(triangles, index, axis, i);
-        let place = g.place;
-        if is_ahead(own, g.own) {
-            range::swap(index, i, place);
-            i = place;
-        } else {
+        if !is_ahead(own, g.own) {
             return;
         }
+        index.swap(i, g.place);
+        i = g.place;
     }
 }
 
@@ -114,15 +105,11 @@ pub fn put_in_order(triangles: &[f64], index: &mut [u32], axis: usize)
     requires { length index.old ≤ most_triangles }
     ensures { index.new ≡ ordered triangles.now axis index.old }
 {
-    let mut k = index.len();
-    while 0 < k {
-        k -= 1;
+    for k in (0..index.len()).rev() {
         sift(triangles, index, axis, k);
     }
-    let mut end = index.len();
-    while 1 < end {
-        end -= 1;
-        range::swap(index, 0, end);
+    for end in (1..index.len()).rev() {
+        index.swap(0, end);
         sift(triangles, &mut index[0..end], axis, 0);
     }
 }

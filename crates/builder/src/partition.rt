@@ -17,7 +17,7 @@ pub fn partition(triangles: &[f64], index: &mut [u32], axis: usize, position: f6
             left += 1;
         } else {
             right -= 1;
-            range::swap(index, left, right);
+            index.swap(left, right);
         }
     }
     left
@@ -29,11 +29,7 @@ pub fn separate(triangles: &[f64], index: &mut [u32], axis: usize, position: f64
     ensures { parts index.new result ≡ separated triangles.now axis position index.old }
 {
     let left = partition(triangles, index, axis, position);
-    if left == 0 {
-        ordering::put_in_order(triangles, index, axis);
-        return index.len() / 2;
-    }
-    if left == index.len() {
+    if left == 0 || left == index.len() {
         ordering::put_in_order(triangles, index, axis);
         return index.len() / 2;
     }

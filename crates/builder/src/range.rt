@@ -1,11 +1,10 @@
 // What is asked of a range of triangle numbers: the boxes of its triangles and of their centroids, in one pass.
-ghost use Rattle.std.specs.Prelude.{◌≡◌, ℕ, ◌+◌, ◌/◌, ◌≤◌, ◌<◌, length};
+ghost use Rattle.std.specs.Prelude.{◌≡◌, ◌+◌, ◌/◌, ◌≤◌, ◌<◌, length};
 ghost use Rattle.lent.specs.Limits.{most_triangles};
 ghost use Rattle.builder.specs.Range.{Numbered, node_box, centroid_box};
 ghost use Rattle.aabb.specs.Vector.{vector_at};
 ghost use Rattle.aabb.specs.Bounds.{of_three};
 ghost use Rattle.triangle.specs.Mesh.{triangle_at, centroid_at};
-ghost use Rattle.builder.specs.Partition.{swapped};
 
 use aabb::{Aabb, Vec3};
 use triangle::{Corners, Triangle};
@@ -34,7 +33,7 @@ pub fn corners(triangles: &[f64], i: u32) -> Corners
     requires { i < length triangles.now / 12 }
     ensures { (result.v0 ≡ (triangle_at triangles.now i).v0) × (result.v1 ≡ (triangle_at triangles.now i).v1) × (result.v2 ≡ (triangle_at triangles.now i).v2) }
 {
-    let at = wide(i) * 12;
+    let at = i as usize * 12;
     let v0 = three(triangles, at);
     let v1 = three(triangles, at + 3);
     let v2 = three(triangles, at + 6);
@@ -56,12 +55,10 @@ pub fn around(triangles: &[f64], index: &[u32]) -> Hull
 {
     let mut bounds = Aabb::empty();
     let mut centroids = Aabb::empty();
-    let mut i: usize = 0;
-    while i < index.len() {
-        let t = corners(triangles, index[i]);
+    for i in index {
+        let t = corners(triangles, *i);
         bounds = bounds.joined(box_of(t));
         centroids = centroids.widened(t.centroid());
-        i += 1;
     }
     Hull { bounds, centroids }
 }
@@ -70,28 +67,10 @@ pub fn around(triangles: &[f64], index: &[u32]) -> Hull
 pub fn centroid_on(triangles: &[f64], i: u32, axis: usize) -> f64
     ensures { result ≡ centroid_at triangles.now axis i }
 {
-    let k = wide(i);
-    if axis < 3 {
-        if k < triangles.len() / 12 {
-            let at = k * 12 + axis;
-            return (triangles[at] + triangles[at + 3] + triangles[at + 6]) / 3.0;
-        }
+    let k = i as usize;
+    if axis < 3 && k < triangles.len() / 12 {
+        let at = k * 12 + axis;
+        return (triangles[at] + triangles[at + 3] + triangles[at + 6]) / 3.0;
     }
     Triangle::read(triangles, k).centroid().along(axis)
-}
-
-pub fn wide(x: u32) -> usize
-    ensures { result ≡ x }
-{
-    x as usize
-}
-
-pub fn swap(index: &mut [u32], a: usize, b: usize)
-    requires { (a < length index.old) × (b < length index.old) }
-    ensures { index.new ≡ swapped index.old a b }
-{
-    let x = index[a];
-    let y = index[b];
-    index[a] = y;
-    index[b] = x;
 }

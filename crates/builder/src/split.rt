@@ -1,5 +1,5 @@
 // The choice of a split by sixteen bins an axis (rules S1 to S9): `find_best_split` of the Rust, an inner part here.
-ghost use Rattle.std.specs.Prelude.{◌≡◌, List, ℕ, ◌*◌, ◌≤◌, ◌<◌, length, replicate, Float};
+ghost use Rattle.std.specs.Prelude.{◌≡◌, List, ℕ, ◌≤◌, ◌<◌, length, replicate, Float};
 ghost use Rattle.std.specs.Float.Ieee.{div, sub};
 ghost use Rattle.std.specs.Float.{binary64};
 ghost use Rattle.float.specs.Number.{sixteen};
@@ -7,11 +7,11 @@ ghost use Rattle.aabb.specs.Vector.{along};
 ghost use Rattle.lent.specs.Limits.{most_triangles};
 ghost use Rattle.builder.specs.Bins.{no_bin, filled};
 ghost use Rattle.builder.specs.Range.{Numbered};
-ghost use Rattle.builder.specs.inner.Lanes.{lane, Lanes};
+ghost use Rattle.builder.specs.inner.Held.{Held};
 ghost use Rattle.builder.specs.Choice.{weight, better_of, sweep_from, try_axis, best_of_axes, best_split};
 
 use crate::bins;
-use crate::bins::Bin;
+use crate::bins::{Axes, Bin};
 use crate::range::Hull;
 use aabb::{Aabb, Vec3};
 
@@ -38,27 +38,30 @@ pub fn weight(b: Bin) -> f64
     area * n * Aabb::SAH_INTERSECTION_COST
 }
 
-// The boundary with `i` bins to its left, each `width` wide, against the best so far. Of the bins to the right only their number and weight are asked.
+// What is asked of the bins to the right of a boundary: how many triangles they have, and their weight.
+#[derive(Clone, Copy)]
+pub struct Side {
+    pub count: u32,
+    pub weight: f64,
+}
+
+// The boundary with `i` bins to its left, each `width` wide, against the best so far.
 pub fn better(
     best: Best,
     l: Bin,
-    count: u32,
-    heavy: f64,
+    right: Side,
     i: u8,
     axis: usize,
     min: f64,
     width: f64,
     parent: f64,
 ) -> Best
-    ensures { (r : Bin) → r.count ≡ count → weight r ≡ heavy → result ≡ better_of best l r i axis min width parent }
+    ensures { (r : Bin) → r.count ≡ right.count → weight r ≡ right.weight → result ≡ better_of best l r i axis min width parent }
 {
-    if l.count == 0 {
+    if l.count == 0 || right.count == 0 {
         return best;
     }
-    if count == 0 {
-        return best;
-    }
-    let cost = Aabb::SAH_TRAVERSAL_COST + (weight(l) + heavy) / parent;
+    let cost = Aabb::SAH_TRAVERSAL_COST + (weight(l) + right.weight) / parent;
     if cost < best.cost {
         return Best {
             cost,
@@ -71,40 +74,38 @@ pub fn better(
 
 // The fifteen boundaries of an axis, from left to right; what is to the right of each is worked out before, from the right end.
 pub fn sweep(
-    boxes: &[f64; 288],
-    counts: &[u32; 48],
+    bins: &[Bin; 16],
     best: Best,
     axis: usize,
     min: f64,
     width: f64,
     parent: f64,
 ) -> Best
-    requires { (axis < 3) × Lanes most_triangles boxes.now counts.now }
-    ensures { result ≡ sweep_from axis min width parent best no_bin (lane boxes.now counts.now (axis * 16) 16) 0 }
+    requires { Held most_triangles bins.now }
+    ensures { result ≡ sweep_from axis min width parent best no_bin bins.now 0 }
 {
-    let from = axis * 16;
-    let mut numbers = [0u32; 16];
-    let mut weights = [0.0; 16];
+    let mut sides = [Side {
+        count: 0,
+        weight: 0.0,
+    }; 16];
     let mut run = Bin::none();
-    let mut k: usize = 16;
-    while 1 < k {
-        k -= 1;
-        run = run.joined(bins::bin_at(boxes, counts, from + k));
-        numbers[k] = run.count;
-        weights[k] = weight(run);
+    for k in (1..16).rev() {
+        run = run.joined(bins[k]);
+        sides[k] = Side {
+            count: run.count,
+            weight: weight(run),
+        };
     }
     let mut left = Bin::none();
     let mut most = best;
-    let mut i: u8 = 0;
-    while i < 15 {
-        left = left.joined(bins::bin_at(boxes, counts, from + i as usize));
-        i += 1;
+    for i in 0..15u8 {
+        left = left.joined(bins[i as usize]);
+        let at = i + 1;
         most = better(
             most,
             left,
-            numbers[i as usize],
-            weights[i as usize],
-            i,
+            sides[at as usize],
+            at,
             axis,
             min,
             width,
@@ -116,15 +117,14 @@ pub fn sweep(
 
 // An axis whose bins are filled.
 pub fn try_axis(
-    boxes: &[f64; 288],
-    counts: &[u32; 48],
+    bins: &[Bin; 16],
     axis: usize,
     centroids: Aabb,
     parent: f64,
     best: Best,
 ) -> Best
-    requires { (axis < 3) × Lanes most_triangles boxes.now counts.now }
-    ensures { (mesh : List Float) (range : List ℕ) → lane boxes.now counts.now (axis * 16) 16 ≡ filled mesh axis (along axis centroids.min) (div binary64 sixteen (sub binary64 (along axis centroids.max) (along axis centroids.min))) (replicate 16 no_bin) range → result ≡ try_axis mesh range centroids axis parent best }
+    requires { Held most_triangles bins.now }
+    ensures { (mesh : List Float) (range : List ℕ) → bins.now ≡ filled mesh axis (along axis centroids.min) (div binary64 sixteen (sub binary64 (along axis centroids.max) (along axis centroids.min))) (replicate 16 no_bin) range → result ≡ try_axis mesh range centroids axis parent best }
 {
     let min = centroids.min.along(axis);
     let max = centroids.max.along(axis);
@@ -133,7 +133,7 @@ pub fn try_axis(
         return best;
     }
     let width = 1.0 / scale(span);
-    sweep(boxes, counts, best, axis, min, width, parent)
+    sweep(bins, best, axis, min, width, parent)
 }
 
 // 16/span
@@ -155,40 +155,33 @@ fn scales(centroids: Aabb) -> Vec3
     }
 }
 
-// The three axes, whose bins are filled, one after the other. The best starts at the cost of a leaf.
-fn try_axes(boxes: &[f64; 288], counts: &[u32; 48], centroids: Aabb, parent: f64, leaf: f64) -> Best
-    requires { Lanes most_triangles boxes.now counts.now }
-    ensures { (mesh : List Float) (range : List ℕ) → ((a : ℕ) → a < 3 → lane boxes.now counts.now (a * 16) 16 ≡ filled mesh a (along a centroids.min) (div binary64 sixteen (sub binary64 (along a centroids.max) (along a centroids.min))) (replicate 16 no_bin) range) → result ≡ best_of_axes mesh range centroids parent leaf }
-{
-    let none = Best {
-        cost: leaf,
-        axis: 0,
-        position: 0.0,
-    };
-    let x = try_axis(boxes, counts, 0, centroids, parent, none);
-    let y = try_axis(boxes, counts, 1, centroids, parent, x);
-    try_axis(boxes, counts, 2, centroids, parent, y)
-}
-
-// The best of the three axes: their bins are filled in one pass.
+// The best of the three axes, one after the other: their bins are filled in one pass. It starts at the cost of a leaf.
 fn best_of_axes(triangles: &[f64], index: &[u32], centroids: Aabb, parent: f64, leaf: f64) -> Best
     requires numbered { Numbered triangles.now index.now }
     requires index_len_bound { length index.now ≤ most_triangles }
     ensures { result ≡ best_of_axes triangles.now index.now centroids parent leaf }
 {
-    let far = float::infinity();
-    let mut boxes = [far; 288];
-    let mut counts = [0u32; 48];
-    bins::vacate(&mut boxes);
+    let none = Bin::none();
+    let mut bins = Axes {
+        x: [none; 16],
+        y: [none; 16],
+        z: [none; 16],
+    };
     bins::fill(
         triangles,
         index,
         centroids.min,
         scales(centroids),
-        &mut boxes,
-        &mut counts,
+        &mut bins,
     );
-    try_axes(&boxes, &counts, centroids, parent, leaf)
+    let start = Best {
+        cost: leaf,
+        axis: 0,
+        position: 0.0,
+    };
+    let x = try_axis(&bins.x, 0, centroids, parent, start);
+    let y = try_axis(&bins.y, 1, centroids, parent, x);
+    try_axis(&bins.z, 2, centroids, parent, y)
 }
 
 // The best split of the range whose boxes are given, or none.

@@ -3,6 +3,7 @@
 #![tactic(auto)]
 
 use builder::Built;
+use lent::Refused;
 
 fn main() {
     small_trees();
@@ -15,74 +16,47 @@ fn main() {
 }
 
 // ---- meshes
-fn set(mesh: &mut [f64], at: usize, x: f64) {
-    if at < mesh.len() {
-        mesh[at] = x;
-    }
-}
-
-fn vector(mesh: &mut [f64], at: usize, x: f64, y: f64, z: f64) {
-    if at < 1000000 {
-        set(mesh, at, x);
-        set(mesh, at + 1, y);
-        set(mesh, at + 2, z);
+// Triangle i: v0, v1, v2, normal.
+fn put(mesh: &mut [f64], i: usize, numbers: &[f64; 12]) {
+    if i < mesh.len() / 12 {
+        mesh[i * 12..i * 12 + 12].copy_from_slice(numbers);
     }
 }
 
 // Triangle i: (s,0,0), (m,0,0), (e,h,0), normal (0,0,1).
 fn flat(mesh: &mut [f64], i: usize, s: f64, m: f64, e: f64, h: f64) {
-    if i < 80000 {
-        vector(mesh, i * 12, s, 0.0, 0.0);
-        vector(mesh, i * 12 + 3, m, 0.0, 0.0);
-        vector(mesh, i * 12 + 6, e, h, 0.0);
-        vector(mesh, i * 12 + 9, 0.0, 0.0, 1.0);
-    }
+    put(mesh, i, &[s, 0.0, 0.0, m, 0.0, 0.0, e, h, 0.0, 0.0, 0.0, 1.0]);
 }
 
 // n triangles (s,0,0), (s+w,0,0), (s,w,0), each a step after the last.
 fn row(mesh: &mut [f64], n: u32, step: f64, w: f64) {
-    let mut i: u32 = 0;
-    while i < n {
+    for i in 0..n {
         let s = (i as f64) * step;
         flat(mesh, i as usize, s, s + w, s, w);
-        i += 1;
     }
-}
-
-// -w at even i, w at odd.
-fn turned(w: f64, i: usize) -> f64 {
-    if i % 2 == 0 { -w } else { w }
 }
 
 // n triangles with boxes one in the other, their centroids by turns at the left and the right end: each division takes one away.
 fn chain(mesh: &mut [f64], n: usize) {
     let mut w = 1048576.0;
-    let mut i: usize = 0;
-    while i < n {
-        flat(mesh, i, -w, turned(w, i), w, 1.0);
+    for i in 0..n {
+        let turned = if i % 2 == 0 { -w } else { w };
+        flat(mesh, i, -w, turned, w, 1.0);
         w = w * 0.7;
-        i += 1;
     }
 }
 
 // Triangle i, upright at x, from y up.
 fn upright(mesh: &mut [f64], i: usize, x: f64, y: f64) {
-    if i < 80000 {
-        vector(mesh, i * 12, x, y, 0.0);
-        vector(mesh, i * 12 + 3, x, y + 1.0, 0.0);
-        vector(mesh, i * 12 + 6, x, y, 1.0);
-        vector(mesh, i * 12 + 9, 1.0, 0.0, 0.0);
-    }
+    put(mesh, i, &[x, y, 0.0, x, y + 1.0, 0.0, x, y, 1.0, 1.0, 0.0, 0.0]);
 }
 
 // Two heaps of three whose centroids lie three ulps apart near 2^40: the position rounds to the lesser.
 fn heaps(mesh: &mut [f64]) {
-    upright(mesh, 0, 1099511627776.0, 0.0);
-    upright(mesh, 1, 1099511627775.9996337890625, 100.0);
-    upright(mesh, 2, 1099511627776.0, 0.0);
-    upright(mesh, 3, 1099511627775.9996337890625, 100.0);
-    upright(mesh, 4, 1099511627776.0, 0.0);
-    upright(mesh, 5, 1099511627775.9996337890625, 100.0);
+    for i in 0..3 {
+        upright(mesh, 2 * i, 1099511627776.0, 0.0);
+        upright(mesh, 2 * i + 1, 1099511627775.9996337890625, 100.0);
+    }
 }
 
 // ---- printing
@@ -91,29 +65,27 @@ fn number(n: usize) {
     io::print_decimal(1, n as u64);
 }
 
-fn short(n: u32) {
-    io::write_all(1, b" ");
-    io::print_decimal(1, n as u64);
+fn numbers(list: &[u32]) {
+    for n in list {
+        number(*n as usize);
+    }
 }
 
 fn end() {
     io::write_all(1, b"\n");
 }
 
-fn answer(r: Built) {
+fn answer(r: Result<Built, Refused>) {
     match r {
-        Built::Tree { nodes, leaves } => {
+        Ok(Built { nodes, leaves }) => {
             io::write_all(1, b"nodes");
             number(nodes);
             io::write_all(1, b" leaves");
             number(leaves);
         }
-        Built::Refused {
-            number: refusal,
-            at,
-        } => {
+        Err(Refused { reason, at }) => {
             io::write_all(1, b"refused");
-            short(refusal);
+            number(reason.number() as usize);
             io::write_all(1, b" at");
             number(at);
         }
@@ -121,20 +93,10 @@ fn answer(r: Built) {
     end();
 }
 
-fn list(numbers: &[u32]) {
+fn list(index: &[u32]) {
     io::write_all(1, b"list");
-    let mut i: usize = 0;
-    while i < numbers.len() {
-        short(numbers[i]);
-        i += 1;
-    }
+    numbers(index);
     end();
-}
-
-fn link(links: &[u32], at: usize) {
-    if at < links.len() {
-        short(links[at]);
-    }
 }
 
 fn bits(pattern: u64) {
@@ -146,36 +108,24 @@ fn bits(pattern: u64) {
     }
 }
 
-fn side(boxes: &[f64], at: usize) {
-    if at < boxes.len() {
-        bits(float::bits(boxes[at]));
-    }
-}
-
 fn nodes(boxes: &[f64], links: &[u32]) {
-    let mut i: usize = 0;
-    while i < links.len() / 3 {
+    for (i, link) in links.chunks_exact(3).enumerate() {
         io::write_all(1, b"node");
         number(i);
         io::write_all(1, b":");
-        link(links, i * 3);
-        link(links, i * 3 + 1);
-        link(links, i * 3 + 2);
+        numbers(link);
         io::write_all(1, b";");
         bounds(boxes, i);
         end();
-        i += 1;
     }
 }
 
+// As many numbers of box i as there are.
 fn bounds(boxes: &[f64], i: usize) {
-    if i < 1000000 {
-        side(boxes, i * 6);
-        side(boxes, i * 6 + 1);
-        side(boxes, i * 6 + 2);
-        side(boxes, i * 6 + 3);
-        side(boxes, i * 6 + 4);
-        side(boxes, i * 6 + 5);
+    if let Some(numbers) = boxes.chunks(6).nth(i) {
+        for x in numbers {
+            bits(float::bits(*x));
+        }
     }
 }
 
@@ -275,11 +225,11 @@ fn bad_numbers() {
     let nan = 0.0 / 0.0;
     let mut mesh = [0.0; 60];
     row(&mut mesh, 5, 16.0, 3.0);
-    set(&mut mesh, 43, nan);
+    mesh[43] = nan;
     in_six(b"a NaN in triangle 3", &mesh);
-    set(&mut mesh, 14, 1.0 / 0.0);
+    mesh[14] = 1.0 / 0.0;
     in_six(b"and infinity in triangle 1", &mesh);
-    set(&mut mesh, 11, -2.0000000000000004);
+    mesh[11] = -2.0000000000000004;
     in_six(b"and a normal over 2 in triangle 0", &mesh);
     let mut index = [9u32; 5];
     let mut boxes = [0.5; 53];
@@ -296,10 +246,10 @@ fn bad_numbers() {
 fn limits() {
     let mut mesh = [0.0; 60];
     row(&mut mesh, 5, 16.0, 3.0);
-    set(&mut mesh, 12, 1099511627776.0);
-    set(&mut mesh, 35, -2.0);
+    mesh[12] = 1099511627776.0;
+    mesh[35] = -2.0;
     in_six(b"2^40 and -2", &mesh);
-    set(&mut mesh, 12, 1099511627776.000244140625);
+    mesh[12] = 1099511627776.000244140625;
     in_six(b"beyond 2^40", &mesh);
 }
 

@@ -2,22 +2,23 @@
 use mathlib.Core.Path.{◌≡◌, refl, sym, ap, ◌∙◌}
 use mathlib.Core.List.{List, [], ◌∷◌}
 use Prim.Native.Nat.{ℕ, suc, ◌+◌, ◌-◌, ◌*◌, ◌^◌, ◌≤◌, ◌<◌}
-use native.Mathlib.Nat.{sub-zero}
 use native.Mathlib.Omega.{arith}
 use lib.ListN.{length, get_or}
 use Rattle.aabb.specs.declared.vector.Ray.{Ray}
 use Rattle.walk.specs.declared.pending.Pending.{Pending}
 use Rattle.walk.specs.declared.tally.Tally.{Tally}
 use Rattle.walk.specs.declared.turn.Turn.{Turn}
-use Rattle.walk.specs.declared.turn.Turn.TheVariants.{Refuse, Missed, Down, Open}
+use Rattle.walk.specs.declared.turn.Turn.TheVariants.{Missed, Down, Open}
+use Rattle.std.specs.Prelude.{Result, Ok, Err}
+use Rattle.lent.specs.declared.refusal.Refused.{Refused}
+use Rattle.lent.specs.Refusals.{number}
 use Rattle.tree.specs.Lent.{Lent, node_count}
 use Rattle.lent.specs.Limits.{most_pending, most_nodes}
 use Rattle.walk.specs.Walk.{start, boxed, refused, over, run}
-use Rattle.walk.specs.inner.Turns.{visit, onward}
+use Rattle.walk.specs.inner.Turns.{Counted, Opens, Leaves, visit, onward}
 use Rattle.walk.specs.inner.State.{top, pending, besides, Ready}
 use Rattle.walk.proofs.PendingList.{taken, length_top}
 use Rattle.walk.proofs.OneMesh.{next_step, none_pending, none_left}
-use Rattle.walk.proofs.Visits.{Counted, Opens, Leaves, visited}
 
 -- each number is below n
 abbrev pub Each : ℕ → List ℕ → Type 0
@@ -35,17 +36,6 @@ pub record Going (s : Lent) (r : Ray) (n : ℕ) (p : Pending) (a : Tally) : Type
 
 pub one_left : (s : Lent) (r : Ray) (left more i : ℕ) (rest : List ℕ) (a : Tally) → left ≡ suc more → run s r left (i ∷ rest) a ≡ onward (visit s.mesh.triangles s.tree r i (length rest) (boxed a)) rest (boxed a) (run s r more)
 one_left s r left more i rest a e = ap (λ (k : ℕ). run s r k (i ∷ rest) a) e ∙ next_step s r more rest i a
-
-pub begun : (s : Lent) (r : Ray) (p : Pending) → 0 < node_count s.tree.links → node_count s.tree.links ≤ most_nodes → p.len ≡ 1 → pending p ≡ 0 ∷ [] → Going s r (node_count s.tree.links) p start
-begun s r p h m l f = record {
-  whole = refl;
-  few = m;
-  room = omega arith;
-  below = rw f (h, tt);
-  most = omega arith;
-  counted = omega arith;
-  same = rw (f, sub-zero);
-}
 
 -- nothing is pending
 pub ended : {s : Lent} {r : Ray} {n : ℕ} {p : Pending} {a : Tally} → Going s r n p a → p.len ≡ 0 → over s.mesh r a ≡ run s r n (0 ∷ []) start
@@ -100,17 +90,17 @@ module _ {s : Lent} {r : Ray} {n : ℕ} {p : Pending} {a b : Tally} (C : Countin
       }
 
   -- and it is visited
-  module _ {t : Turn} (e : t ≡ visit s.mesh.triangles s.tree r (last_of p) (p.len - 1) b) where
+  module _ {t : Result Turn Refused} (e : t ≡ visit s.mesh.triangles s.tree r (last_of p) (p.len - 1) b) where
     next : onward t (besides p) b (run s r (n - (a.boxes + 1))) ≡ run s r n (0 ∷ []) start
     next =
-        ap (λ (u : Turn). onward u (besides p) b (run s r (n - (a.boxes + 1)))) e
+        ap (λ (u : Result Turn Refused). onward u (besides p) b (run s r (n - (a.boxes + 1)))) e
         ∙ ap (λ (k : ℕ). onward (visit s.mesh.triangles s.tree r (last_of p) k b) (besides p) b (run s r (n - (a.boxes + 1)))) (sym (length_top p.nodes (p.len - 1)))
         ∙ ap (λ (c : Tally). onward (visit s.mesh.triangles s.tree r (last_of p) (length (besides p)) c) (besides p) c (run s r (n - (a.boxes + 1)))) C.one
         ∙ sym (one_left s r (n - a.boxes) (n - (a.boxes + 1)) (last_of p) (besides p) a (omega (arith, C.more)))
         ∙ apart C.going C.some
 
-    pub stopped : (k i : ℕ) → t ≡ Refuse k i → refused k i ≡ run s r n (0 ∷ []) start
-    stopped k i g = rw g at next
+    pub stopped : (why : Refused) → t ≡ Err why → refused (number why.reason) why.at ≡ run s r n (0 ∷ []) start
+    stopped why g = rw g at next
 
     went : (q : Pending) (c : Tally) → q.len ≤ most_pending → Each n (pending q) → Counted b.boxes (b.triangles + 2 ^ 32) c
         → run s r (n - (a.boxes + 1)) (pending q) c ≡ run s r n (0 ∷ []) start → Going s r n q c
@@ -128,15 +118,12 @@ module _ {s : Lent} {r : Ray} {n : ℕ} {p : Pending} {a b : Tally} (C : Countin
     unchanged = record { tests = refl; most = omega arith }
 
     -- its box is missed
-    pub missed : t ≡ Missed → (q : Pending) → q.len ≡ p.len - 1 → pending q ≡ besides p → Going s r n q b
+    pub missed : t ≡ Ok Missed → (q : Pending) → q.len ≡ p.len - 1 → pending q ≡ besides p → Going s r n q b
     missed g q l h = went q b (omega (arith, C.going.room)) (rw h (all_below C.going C.some).1) unchanged (rw h (rw g at next))
 
-    module _ (small : (k : ℕ) → get_or s.tree.links k 0 < 2 ^ 32) where
-      bounds : Leaves (node_count s.tree.links) (p.len - 1) b.boxes (b.triangles + 2 ^ 32) t
-      bounds = rw e (visited s.mesh.triangles s.tree r (last_of p) (p.len - 1) b small)
-
+    module _ (bounds : Leaves (node_count s.tree.links) (p.len - 1) b.boxes (b.triangles + 2 ^ 32) t) where
       -- a leaf is done with
-      module _ {c : Tally} (g : t ≡ Down c) where
+      module _ {c : Tally} (g : t ≡ Ok (Down c)) where
         counts : Counted b.boxes (b.triangles + 2 ^ 32) c
         counts = rw g at bounds
 
@@ -147,7 +134,7 @@ module _ {s : Lent} {r : Ray} {n : ℕ} {p : Pending} {a b : Tally} (C : Countin
         down q l h = went q c (omega (arith, C.going.room)) (rw h (all_below C.going C.some).1) counts (rw h (rw g at next))
 
       -- its children take its place
-      module _ {left right : ℕ} (g : t ≡ Open left right) where
+      module _ {left right : ℕ} (g : t ≡ Ok (Open left right)) where
         opened : Opens (node_count s.tree.links) (p.len - 1) left right
         opened = rw g at bounds
 

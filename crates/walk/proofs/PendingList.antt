@@ -1,6 +1,6 @@
 -- The pending nodes as an array and a length: what a step puts there, and what it takes. Assumes nothing.
 use mathlib.Core.Path.{◌≡◌, refl, sym, ap, ◌∙◌}
-use mathlib.Core.List.{List, [], ◌∷◌}
+use mathlib.Core.List.{List, ◌∷◌}
 use Prim.Native.Nat.{ℕ, zero, suc, ◌+◌, ◌-◌, ◌≤◌, ◌<◌}
 use native.Mathlib.Numerals.{add-one}
 use native.Mathlib.Omega.{arith}
@@ -43,9 +43,6 @@ taken nodes k h = go k (k - 1) (omega arith)
 -- and is the first of them
 top_last : (nodes : List ℕ) (k v : ℕ) (rest : List ℕ) → 0 < k → top nodes k ≡ v ∷ rest → get_or nodes (k - 1) 0 ≡ v
 top_last nodes k v rest h e = ap (λ (l : List ℕ). get_or l 0 0) (sym (taken nodes k h) ∙ e)
-
-pub root_last : (nodes : List ℕ) (len : ℕ) → len ≡ 1 → top nodes len ≡ 0 ∷ [] → get_or nodes (len - 1) 0 ≡ 0
-root_last nodes len p e = top_last nodes len 0 [] (omega (arith, p)) e
 
 pub opened_last : (nodes : List ℕ) (len k left : ℕ) (rest : List ℕ) → len ≡ k + 1 → top nodes len ≡ left ∷ rest → get_or nodes (len - 1) 0 ≡ left
 opened_last nodes len k left rest p e = top_last nodes len left rest (omega (arith, p)) e

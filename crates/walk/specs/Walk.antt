@@ -1,18 +1,14 @@
 -- The walk of one ray through one mesh, with its counts and its refusals, on any lists (rules W1 to W8, E1). Definitions only.
-use Rattle.std.specs.Prelude.{ℕ, ◌+◌, Bool, not, cond, List, [], ◌∷◌, leb, ltb, get_or, Float}
+use Rattle.std.specs.Prelude.{ℕ, ◌+◌, Bool, not, cond, List, [], ◌∷◌, leb, ltb, get_or, Float, Option, Some, None}
 use Rattle.std.specs.Float.Ieee.{lt, le}
 use Rattle.lent.specs.Ladder.{none, numbered, check, unless, triangle_count, ragged, crowded, unlabelled}
 use Rattle.float.specs.Number.{infinity}
 use Rattle.aabb.specs.declared.vector.Ray.{Ray}
 use Rattle.aabb.specs.Vector.{admitted_ray}
-use Rattle.triangle.specs.declared.Found.{Found}
-use Rattle.triangle.specs.declared.Found.TheVariants.{At, Nothing}
-use Rattle.triangle.specs.declared.Distance.{Distance}
-use Rattle.triangle.specs.declared.Distance.TheVariants.{To, None}
+use Rattle.triangle.specs.declared.Hit.{Hit}
 use Rattle.triangle.specs.Mesh.{triangle_at, admitted_triangle}
 use Rattle.triangle.specs.Meeting.{distance, hit_at}
-use Rattle.walk.specs.declared.tally.Nearest.{Nearest}
-use Rattle.walk.specs.declared.tally.Nearest.TheVariants.{Unmet, Met}
+use Rattle.walk.specs.declared.tally.Met.{Met}
 use Rattle.walk.specs.declared.tally.Tally.{Tally}
 use Rattle.tree.specs.Lent.{Mesh, Lent, material_of, node_count}
 use Rattle.tree.specs.Node.{misfit}
@@ -20,25 +16,29 @@ use Rattle.walk.specs.Answer.{Told}
 use Rattle.walk.specs.Steps.{Went, on, stop, steps}
 
 -- ---- the tally: the two counts, and the hit so far, by its t and its triangle's number
+-- the hit so far: the triangle of this number, at this t
+abbrev pub met : Float → ℕ → Option Met
+met t k = Some (record { t = t; number = k })
+
 -- Rule W1: nothing counted, nothing found
 abbrev pub start : Tally
-start = record { boxes = 0; triangles = 0; nearest = Unmet }
+start = record { boxes = 0; triangles = 0; nearest = None }
 
 -- Rule W3: counts one box test
 unfoldable pub boxed : Tally → Tally
 boxed a = record { boxes = a.boxes + 1; triangles = a.triangles; nearest = a.nearest }
 
 -- Rule E1: whether triangle k, found at t, replaces the hit: at a smaller t it does, and at numerically equal t if its number is lower
-unfoldable pub replaces : Nearest → ℕ → Float → Bool
-replaces Unmet k t = lt t infinity
-replaces (Met u j) k t = cond (ltb k j) (le t u) (lt t u)
+unfoldable pub replaces : Option Met → ℕ → Float → Bool
+replaces None k t = lt t infinity
+replaces (Some m) k t = cond (ltb k m.number) (le t m.t) (lt t m.t)
 
-unfoldable pub nearer : Nearest → ℕ → Distance → Nearest
+unfoldable pub nearer : Option Met → ℕ → Option Float → Option Met
 nearer best k None = best
-nearer best k (To t) = cond (replaces best k t) (Met t k) best
+nearer best k (Some t) = cond (replaces best k t) (met t k) best
 
 -- what the test of triangle k leaves as the nearest
-unfoldable pub after : List Float → Ray → ℕ → Nearest → Nearest
+unfoldable pub after : List Float → Ray → ℕ → Option Met → Option Met
 after mesh r k best = nearer best k (distance r (triangle_at mesh k))
 
 -- Rule W4: triangle k is tested, and the test counted
@@ -48,12 +48,12 @@ tested mesh r k a = record { boxes = a.boxes; triangles = a.triangles + 1; neare
 -- ---- the walk
 -- Rule W8: a number and a place, and nothing else
 abbrev pub refused : ℕ → ℕ → Told
-refused k i = record { refusal = numbered k i; hit = Nothing; boxes = 0; triangles = 0 }
+refused k i = record { refusal = numbered k i; hit = None; boxes = 0; triangles = 0 }
 
 -- Rule W6: the hit, made from its t and its triangle's number, with the triangle's material
-unfoldable pub hit_of : Mesh → Ray → Nearest → Found
-hit_of m r Unmet = Nothing
-hit_of m r (Met t k) = At (hit_at r (triangle_at m.triangles k) k (material_of m k) t)
+unfoldable pub hit_of : Mesh → Ray → Option Met → Option Hit
+hit_of m r None = None
+hit_of m r (Some b) = Some (hit_at r (triangle_at m.triangles b.number) b.number (material_of m b.number) b.t)
 
 -- Rule W6: when no node is pending any more
 unfoldable pub over : Mesh → Ray → Tally → Told

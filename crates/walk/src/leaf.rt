@@ -5,43 +5,34 @@ ghost use Rattle.walk.specs.inner.Turns.{scan, open_leaf};
 ghost use Rattle.walk.specs.inner.State.{verdict, nearest_of};
 
 use crate::tally;
-use crate::tally::{Nearest, Tally};
+use crate::tally::{Met, Tally};
 use crate::turn::Turn;
 use aabb::Ray;
+use lent::{Reason, Refused};
 use tree::Node;
 
-// Whether a walk can test every entry of a leaf.
-#[derive(Clone, Copy)]
-pub enum Verdict {
-    Fit,
-    Unfit { number: u32, at: u64 },
-}
-
-// The first entry that is n or more (10) or whose triangle isn't admitted (5), of `count` entries from place `first` on.
-pub fn judge(triangles: &[f64], index: &[u32], first: usize, count: usize) -> Verdict
+// Refused at the first entry that is n or more (10) or whose triangle isn't admitted (5), of `count` entries from place `first` on.
+pub fn judge(triangles: &[f64], index: &[u32], first: usize, count: usize) -> Result<(), Refused>
     requires { first + count ≤ length index.now }
     ensures { result ≡ verdict triangles.now index.now count first }
 {
     let n = triangles.len() / 12;
-    let end = first + count;
-    let mut place = first;
-    while place < end {
-        let number = index[place];
-        if n <= number as usize {
-            return Verdict::Unfit {
-                number: 10,
-                at: place as u64,
-            };
+    for place in first..first + count {
+        let number = index[place] as usize;
+        if n <= number {
+            return Err(Refused {
+                reason: Reason::BadEntry,
+                at: place,
+            });
         }
-        if !triangle::admitted_at(triangles, number as usize) {
-            return Verdict::Unfit {
-                number: 5,
-                at: number as u64,
-            };
+        if !triangle::admitted_at(triangles, number) {
+            return Err(Refused {
+                reason: Reason::BadTriangle,
+                at: number,
+            });
         }
-        place += 1;
     }
-    Verdict::Fit
+    Ok(())
 }
 
 // The hit so far, after the test of each of `count` entries from place `first` on.
@@ -51,17 +42,14 @@ pub fn nearest(
     ray: Ray,
     first: usize,
     count: usize,
-    best: Nearest,
-) -> Nearest
+    best: Option<Met>,
+) -> Option<Met>
     requires { first + count ≤ length index.now }
     ensures { result ≡ nearest_of triangles.now index.now ray count first best }
 {
-    let end = first + count;
-    let mut place = first;
     let mut found = best;
-    while place < end {
+    for place in first..first + count {
         found = tally::after(triangles, ray, index[place], found);
-        place += 1;
     }
     found
 }
@@ -74,36 +62,39 @@ pub fn scan(
     first: usize,
     count: usize,
     a: Tally,
-) -> Turn
+) -> Result<Turn, Refused>
     requires { (first + count ≤ length index.now) × (count < 2 ^ 32) × (a.triangles < 2 ^ 60) }
     ensures { result ≡ scan triangles.now index.now ray count first a }
 {
-    match judge(triangles, index, first, count) {
-        Verdict::Unfit { number, at } => Turn::Refuse { number, at },
-        Verdict::Fit => {
-            let best = a.nearest;
-            let nearest = nearest(triangles, index, ray, first, count, best);
-            Turn::Down(Tally {
-                boxes: a.boxes,
-                triangles: a.triangles + count as u64,
-                nearest,
-            })
-        }
-    }
+    judge(triangles, index, first, count)?;
+    let nearest = nearest(triangles, index, ray, first, count, a.nearest);
+    Ok(Turn::Down(Tally {
+        boxes: a.boxes,
+        triangles: a.triangles + count as u64,
+        nearest,
+    }))
 }
 
 // A leaf whose box is passed.
-pub fn open(triangles: &[f64], index: &[u32], ray: Ray, i: u32, x: Node, a: Tally) -> Turn
+#[tactic(auto, unfolding(crate::specs::inner::Turns::open_leaf))]
+pub fn open(
+    triangles: &[f64],
+    index: &[u32],
+    ray: Ray,
+    i: u32,
+    x: Node,
+    a: Tally,
+) -> Result<Turn, Refused>
     requires { a.triangles < 2 ^ 60 }
     ensures { result ≡ open_leaf triangles.now index.now ray i x a }
 {
     let first = x.left_or_first as usize;
     let count = x.count as usize;
     if index.len() < first + count {
-        return Turn::Refuse {
-            number: 9,
-            at: i as u64,
-        };
+        return Err(Refused {
+            reason: Reason::BadNode,
+            at: i as usize,
+        });
     }
     scan(triangles, index, ray, first, count, a)
 }

@@ -10,18 +10,21 @@ mod leaf; // leaf.rt: a leaf's triangles
 mod step; // step.rt: one step
 
 ghost use Rattle.std.specs.Prelude.{◌≡◌, [], ◌∷◌, ◌<◌, ◌≤◌};
-ghost use Rattle.tree.specs.Lent.{mesh_of, lent, node_count};
+ghost use Rattle.tree.specs.Lent.{node_count};
 ghost use Rattle.lent.specs.Limits.{most_nodes};
 ghost use Rattle.walk.specs.Answer.{told};
+ghost use Rattle.walk.specs.inner.State.{answer};
 ghost use Rattle.walk.specs.Walk.{over, start, run, walk};
 
 use aabb::{Aim, Ray};
+use lent::{Reason, Refused};
 use pending::Pending;
-use tally::{Nearest, Tally};
+use tally::{Met, Tally};
+use tree::{Lent, Mesh};
 use triangle::{Hit, Triangle};
 use turn::Turn;
 
-// The walk's answer (rule W8): what was hit and both counts, the counts alone, or a refusal's number and `at`.
+// The walk's answer (rule W8), an enum of the three cases, as the customer asked: what was hit and both counts, the counts alone, or a refusal.
 #[derive(Clone, Copy)]
 pub enum Answer {
     Struck {
@@ -33,25 +36,22 @@ pub enum Answer {
         boxes: u64,
         triangles: u64,
     },
-    Refused {
-        number: u32,
-        at: u64,
-    },
+    Refused(Refused),
 }
 
 // The answer of a walk that has no node pending any more.
-fn over(triangles: &[f64], materials: &[u32], ray: Ray, a: Tally) -> Answer
-    ensures { told result ≡ over (mesh_of triangles.now materials.now) ray a }
+#[tactic(auto, unfolding(crate::specs::Answer::told, crate::specs::Walk::over, crate::specs::Walk::hit_of))]
+fn over(mesh: &Mesh, ray: Ray, a: Tally) -> Answer
+    ensures { told result ≡ over mesh.now ray a }
 {
-    let best = a.nearest;
-    match best {
-        Nearest::Unmet => Answer::Missed {
+    match a.nearest {
+        None => Answer::Missed {
             boxes: a.boxes,
             triangles: a.triangles,
         },
-        Nearest::Met { t, number } => {
-            let material = tree::word(materials, number as usize);
-            let hit = Triangle::read(triangles, number as usize).hit(ray, t, number, material);
+        Some(Met { t, number }) => {
+            let material = tree::word(mesh.materials, number as usize);
+            let hit = Triangle::read(mesh.triangles, number as usize).hit(ray, t, number, material);
             Answer::Struck {
                 hit,
                 boxes: a.boxes,
@@ -62,18 +62,13 @@ fn over(triangles: &[f64], materials: &[u32], ray: Ray, a: Tally) -> Answer
 }
 
 // The steps, from the root on.
-fn run(
-    triangles: &[f64],
-    materials: &[u32],
-    index: &[u32],
-    boxes: &[f64],
-    links: &[u32],
-    ray: Ray,
-) -> Answer
-    requires { (0 < node_count links.now) × (node_count links.now ≤ most_nodes) }
-    ensures { told result ≡ run (lent triangles.now materials.now index.now boxes.now links.now) ray (node_count links.now) (0 ∷ []) start }
+fn run(scene: &Lent, ray: Ray) -> Result<Answer, Refused>
+    requires { (0 < node_count scene.now.tree.links) × (node_count scene.now.tree.links ≤ most_nodes) }
+    ensures { told (answer result) ≡ run scene.now ray (node_count scene.now.tree.links) (0 ∷ []) start }
 {
-    let nodes = links.len() / 3;
+    let mesh = &scene.mesh;
+    let tree = &scene.tree;
+    let nodes = tree.links.len() / 3;
     let aim = Aim::of(ray);
     let mut pending = Pending::root();
     // The last pending number, beside the state: a step need not wait for the array that was just copied.
@@ -81,22 +76,19 @@ fn run(
     let mut a = Tally {
         boxes: 0,
         triangles: 0,
-        nearest: Nearest::Unmet,
+        nearest: None,
     };
     while 0 < pending.len {
         let besides = pending.len - 1;
         let i = last;
         if nodes <= a.boxes as usize {
-            return Answer::Refused {
-                number: 12,
-                at: i as u64,
-            };
+            return Err(Refused {
+                reason: Reason::Endless,
+                at: i as usize,
+            });
         }
         a = a.boxed();
-        match step::visit(triangles, index, boxes, links, aim, i, besides, a) {
-            Turn::Refuse { number, at } => {
-                return Answer::Refused { number, at };
-            }
+        match step::visit(scene, aim, i, besides, a)? {
             Turn::Down(next) => {
                 a = next;
                 pending = pending.dropped();
@@ -116,7 +108,48 @@ fn run(
             }
         }
     }
-    over(triangles, materials, ray, a)
+    Ok(over(mesh, ray, a))
+}
+
+// What can be told before any step, then the steps.
+fn checked(scene: &Lent, ray: Ray) -> Result<Answer, Refused>
+    ensures { told (answer result) ≡ walk scene.now ray }
+{
+    let mesh = &scene.mesh;
+    let tree = &scene.tree;
+    let numbers = mesh.triangles.len();
+    if numbers % 12 != 0 {
+        return Err(Refused {
+            reason: Reason::Ragged,
+            at: 0,
+        });
+    }
+    let n = numbers / 12;
+    if lent::MOST_TRIANGLES < n {
+        return Err(Refused {
+            reason: Reason::Crowded,
+            at: n,
+        });
+    }
+    if mesh.materials.len() != n {
+        return Err(Refused {
+            reason: Reason::Unlabelled,
+            at: 0,
+        });
+    }
+    if !ray.admitted() {
+        return Err(Refused {
+            reason: Reason::BadRay,
+            at: 0,
+        });
+    }
+    if tree::misfit(tree.boxes, tree.links) {
+        return Err(Refused {
+            reason: Reason::Misfit,
+            at: 0,
+        });
+    }
+    run(scene, ray)
 }
 
 // The nearest hit of the ray among the triangles of the leaves that it reaches, from node 0 on through boxes that it passes, at an equal t the
@@ -124,35 +157,11 @@ fn run(
 // twelves; 2 more than 65,536 of them (at: how many); 18 not one material for each; 7 the ray isn't admitted; 8 no links, links not in threes, more
 // than 131,071 nodes, or not six numbers of box for each; then by steps 12 more box tests than nodes (at: the node), 9 a bad node (the node), 10 an index entry of n or more
 // (its place), 5 a triangle that isn't admitted (its number), 11 more than 64 pending (the node). It writes nothing.
-pub fn walk(
-    triangles: &[f64],
-    materials: &[u32],
-    index: &[u32],
-    boxes: &[f64],
-    links: &[u32],
-    ray: Ray,
-) -> Answer
-    ensures { told result ≡ walk (lent triangles.now materials.now index.now boxes.now links.now) ray }
+pub fn walk(scene: &Lent, ray: Ray) -> Answer
+    ensures { told result ≡ walk scene.now ray }
 {
-    let numbers = triangles.len();
-    if numbers % 12 != 0 {
-        return Answer::Refused { number: 1, at: 0 };
+    match checked(scene, ray) {
+        Ok(answer) => answer,
+        Err(refused) => Answer::Refused(refused),
     }
-    let n = numbers / 12;
-    if lent::MOST_TRIANGLES < n {
-        return Answer::Refused {
-            number: 2,
-            at: n as u64,
-        };
-    }
-    if materials.len() != n {
-        return Answer::Refused { number: 18, at: 0 };
-    }
-    if !ray.admitted() {
-        return Answer::Refused { number: 7, at: 0 };
-    }
-    if tree::misfit(boxes, links) {
-        return Answer::Refused { number: 8, at: 0 };
-    }
-    run(triangles, materials, index, boxes, links, ray)
 }

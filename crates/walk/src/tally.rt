@@ -3,13 +3,13 @@ ghost use Rattle.std.specs.Prelude.{◌≡◌, ◌<◌, ◌^◌};
 ghost use Rattle.walk.specs.Walk.{replaces, nearer, after, boxed};
 
 use aabb::Ray;
-use triangle::{Corners, Distance};
+use triangle::Corners;
 
-// The hit so far.
+// The triangle that is met first of those tested so far, and where.
 #[derive(Clone, Copy)]
-pub enum Nearest {
-    Unmet,
-    Met { t: f64, number: u32 },
+pub struct Met {
+    pub t: f64,
+    pub number: u32,
 }
 
 // The two counts, of box tests and of triangle tests, and the hit so far.
@@ -17,40 +17,40 @@ pub enum Nearest {
 pub struct Tally {
     pub boxes: u64,
     pub triangles: u64,
-    pub nearest: Nearest,
+    pub nearest: Option<Met>,
 }
 
 // Whether triangle `number`, found at t, replaces the hit so far: at a smaller t it does, and at an equal t if its number is lower.
-pub fn replaces(best: Nearest, number: u32, t: f64) -> bool
+#[tactic(auto, unfolding(crate::specs::Walk::replaces))]
+pub fn replaces(best: Option<Met>, number: u32, t: f64) -> bool
     ensures { result ≡ replaces best number t }
 {
     match best {
-        Nearest::Unmet => t < float::infinity(),
-        Nearest::Met {
-            t: least,
-            number: held,
-        } => { if number < held { t <= least } else { t < least } }
-    }
-}
-
-// The nearer of the hit so far and what the test of triangle `number` found.
-pub fn nearer(best: Nearest, number: u32, found: Distance) -> Nearest
-    ensures { result ≡ nearer best number found }
-{
-    match found {
-        Distance::None => best,
-        Distance::To(t) => {
-            if replaces(best, number, t) {
-                Nearest::Met { t, number }
+        None => t < float::infinity(),
+        Some(met) => {
+            if number < met.number {
+                t <= met.t
             } else {
-                best
+                t < met.t
             }
         }
     }
 }
 
+// The nearer of the hit so far and what the test of triangle `number` found.
+#[tactic(auto, unfolding(crate::specs::Walk::nearer))]
+pub fn nearer(best: Option<Met>, number: u32, found: Option<f64>) -> Option<Met>
+    ensures { result ≡ nearer best number found }
+{
+    match found {
+        Some(t) if replaces(best, number, t) => Some(Met { t, number }),
+        _ => best,
+    }
+}
+
 // The hit so far, after the test of one triangle more. `Corners::distance` does the same two calls; made here, both are compiled into the walk's loop.
-pub fn after(triangles: &[f64], ray: Ray, number: u32, best: Nearest) -> Nearest
+#[tactic(auto, using(triangle::proofs::Steps::distance_crossed), unfolding(crate::specs::Walk::after, triangle::specs::Meeting::distance))]
+pub fn after(triangles: &[f64], ray: Ray, number: u32, best: Option<Met>) -> Option<Met>
     ensures { result ≡ after triangles.now ray number best }
 {
     let found = Corners::read(triangles, number as usize)
@@ -61,15 +61,14 @@ pub fn after(triangles: &[f64], ray: Ray, number: u32, best: Nearest) -> Nearest
 
 impl Tally {
     // One box test more.
+    #[tactic(auto, unfolding(crate::specs::Walk::boxed))]
     pub fn boxed(self) -> Tally
         requires { self.boxes < 2 ^ 60 }
         ensures { result ≡ boxed self }
     {
-        let nearest = self.nearest;
         Tally {
             boxes: self.boxes + 1,
-            triangles: self.triangles,
-            nearest,
+            ..self
         }
     }
 }

@@ -1,11 +1,9 @@
-// How a step of the walk ends.
+// How a step of the walk that isn't refused ends.
 use crate::tally::Tally;
 
 // What a step does with the pending node that it took.
 #[derive(Clone, Copy)]
 pub enum Turn {
-    // The walk is refused.
-    Refuse { number: u32, at: u64 },
     // A leaf, done with: one fewer is pending, and the tally is this after its tests.
     Down(Tally),
     // The node's children take its place.

@@ -9,6 +9,7 @@ use Rattle.builder.proofs.StartLoops.{room_is}
 use Rattle.triangle.proofs.Admitting.{bad_at, none_bad}
 use Rattle.builder.proofs.Returns.{past_room}
 use Rattle.lent.proofs.Ladder.{ends, goes, stops, agree, differ, below, not_below}
+use Rattle.builder.proofs.build.Goals.{then-boxes-room-via-then-boxes-room, then-boxes-room-via-else-boxes-room+then-links-room}
 use Rattle.builder.proofs.build.Goals as goal
 
 pub returns-then-triangles-ne0 : goal.returns-then-triangles-ne0
@@ -27,21 +28,16 @@ pub returns-then-boxes-room : goal.returns-then-boxes-room
 unfolding built reply
 returns-then-boxes-room c =
     rw (← c.room-room.ensures)
-    (ends (goes (agree c.if-triangles-ne0.false) (goes (not_below c.if-n-gt-MOST_TRIANGLES.false) (goes (not_below c.if-index-n.false) (stops (below c.if-boxes-room.true) refl)))))
+    (ends (goes (agree c.if-triangles-ne0.false) (goes (not_below c.if-n-gt-MOST_TRIANGLES.false) (goes (not_below c.if-index-n.false) (elim c.then-boxes-room.branch [
+      | then-boxes-room-via-then-boxes-room w ↦ stops (below w.if-boxes-room.true) refl
+      | then-boxes-room-via-else-boxes-room+then-links-room w ↦ goes (not_below w.if-boxes-room.false) (stops (below w.if-links-room.true) refl)
+    ])))))
 
-pub returns-then-links-room : goal.returns-then-links-room
-unfolding built reply
-returns-then-links-room c =
-    rw (← c.room-room.ensures)
-    (ends
-    (goes (agree c.if-triangles-ne0.false)
-    (goes (not_below c.if-n-gt-MOST_TRIANGLES.false) (goes (not_below c.if-index-n.false) (goes (not_below c.if-boxes-room.false) (stops (below c.if-links-room.true) refl))))))
-
-pub returns-in-At : goal.returns-in-At
+pub returns-in-Some : goal.returns-in-Some
 unfolding reply
-returns-in-At c =
+returns-in-Some c =
     past_room _ _ _ _ _ _ c.if-triangles-ne0.false c.if-n-gt-MOST_TRIANGLES.false c.if-index-n.false c.room-room.ensures c.if-boxes-room.false c.if-links-room.false
-    (bad_at (sym c.first_refused-bad.ensures ∙ c.in-At.is) refl)
+    (bad_at (sym c.first_refused.ensures ∙ c.in-Some.is) refl)
 
 pub make-requires : goal.make-requires
 make-requires c = record {
@@ -66,4 +62,4 @@ shape_of-links c = c.make.auto.links
 pub returns : goal.returns
 returns c =
     past_room _ _ _ _ _ _ c.if-triangles-ne0.false c.if-n-gt-MOST_TRIANGLES.false c.if-index-n.false c.room-room.ensures c.if-boxes-room.false c.if-links-room.false
-    (none_bad (sym c.first_refused-bad.ensures ∙ c.in_default.is) c.make.ensures)
+    (none_bad (sym c.first_refused.ensures ∙ c.in_default.is) c.make.ensures)

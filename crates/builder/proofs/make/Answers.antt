@@ -17,8 +17,8 @@ use Rattle.lent.proofs.Permutation.{up_below}
 use Rattle.builder.proofs.Returns.{c_length, front_length_is, lent_again, made_deep, made_done, rest_again, twice_length}
 use Rattle.builder.proofs.make.Goals as goal
 
-pub subdivide-made-requires : goal.subdivide-made-requires
-subdivide-made-requires c =
+pub subdivide-requires : goal.subdivide-requires
+subdivide-requires c =
     let a = c.args in
     let u = c.count_up in
     let le = c.requires.n_le_most_triangles.1 in
@@ -33,53 +33,53 @@ pub shape_of-index-in_default : goal.shape_of-index-in_default
 shape_of-index-in_default c =
     let a = c.args in
     let u = c.count_up in
-    let d = c.subdivide-made in
-    c.clear.auto.s ∙ twice_length a.index.now u.new.index a.n c.requires.n_le_most_triangles.1 u.auto.index d.new.index d.auto.index
+    let d = c.subdivide in
+    c.fill.auto.self ∙ twice_length a.index.now u.new.index a.n c.requires.n_le_most_triangles.1 u.auto.index d.new.index d.auto.index
 
 pub shape_of-boxes-in_default : goal.shape_of-boxes-in_default
-shape_of-boxes-in_default c = c.clear_floats.auto.s ∙ c.subdivide-made.auto.boxes
+shape_of-boxes-in_default c = c.fill-in_default.auto.self ∙ c.subdivide.auto.boxes
 
 pub shape_of-links-in_default : goal.shape_of-links-in_default
-shape_of-links-in_default c = c.clear-in_default.auto.s ∙ c.subdivide-made.auto.links
+shape_of-links-in_default c = c.fill-in_default-2.auto.self ∙ c.subdivide.auto.links
 
 pub returns-in_default : goal.returns-in_default
 unfolding reply
 returns-in_default c =
     let a = c.args in
     let u = c.count_up in
-    let d = c.subdivide-made in
+    let d = c.subdivide in
     let le = c.requires.n_le_most_triangles.1 in
     let lent = lent_again a.index.now u.new.index a.n le u.auto.index ∙ u.ensures ∙ ap up_to (front_length_is a.index.now u.new.index a.n le u.auto.index) in
     let laid = subst (λ (z : List ℕ). Divided (grow a.triangles.now deepest 0 z) 0 1 a.boxes.now a.links.now d.result d.new.index d.new.boxes d.new.links) lent d.ensures in
-    let x = c.clear in
-    let y = c.clear_floats in
-    let z = c.clear-in_default in
-    made_deep a.n (grow a.triangles.now deepest 0 (up_to a.n)) d.result a.index.now d.new.index x.new.s a.boxes.now d.new.boxes y.new.s a.links.now d.new.links z.new.s laid c.in_default.is
-    (x.ensures ∙ ap (λ (k : ℕ). replicate {A = ℕ} k 0) (twice_length a.index.now u.new.index a.n le u.auto.index d.new.index d.auto.index))
-    (y.ensures ∙ ap (λ (k : ℕ). replicate {A = Float} k nought) d.auto.boxes)
-    (z.ensures ∙ ap (λ (k : ℕ). replicate {A = ℕ} k 0) d.auto.links)
+    let x = c.fill in
+    let y = c.fill-in_default in
+    let z = c.fill-in_default-2 in
+    made_deep a.n (grow a.triangles.now deepest 0 (up_to a.n)) d.result a.index.now d.new.index x.new.self a.boxes.now d.new.boxes y.new.self a.links.now d.new.links z.new.self laid c.in_default.is
+    (x.ensures.after (λ v e. e) ∙ ap (λ (k : ℕ). replicate {A = ℕ} k 0) (twice_length a.index.now u.new.index a.n le u.auto.index d.new.index d.auto.index))
+    (y.ensures.after (λ v e. e) ∙ ap (λ (k : ℕ). replicate {A = Float} k nought) d.auto.boxes)
+    (z.ensures.after (λ v e. e) ∙ ap (λ (k : ℕ). replicate {A = ℕ} k 0) d.auto.links)
 
 pub shape_of-index : goal.shape_of-index
 shape_of-index c =
     let a = c.args in
     let u = c.count_up in
-    let d = c.subdivide-made in
+    let d = c.subdivide in
     twice_length a.index.now u.new.index a.n c.requires.n_le_most_triangles.1 u.auto.index d.new.index d.auto.index
 
 pub shape_of-boxes : goal.shape_of-boxes
-shape_of-boxes c = c.subdivide-made.auto.boxes
+shape_of-boxes c = c.subdivide.auto.boxes
 
 pub shape_of-links : goal.shape_of-links
-shape_of-links c = c.subdivide-made.auto.links
+shape_of-links c = c.subdivide.auto.links
 
 pub returns : goal.returns
 unfolding reply
 returns c =
     let a = c.args in
     let u = c.count_up in
-    let d = c.subdivide-made in
+    let d = c.subdivide in
     let le = c.requires.n_le_most_triangles.1 in
     let lent = lent_again a.index.now u.new.index a.n le u.auto.index ∙ u.ensures ∙ ap up_to (front_length_is a.index.now u.new.index a.n le u.auto.index) in
     let laid = subst (λ (z : List ℕ). Divided (grow a.triangles.now deepest 0 z) 0 1 a.boxes.now a.links.now d.result d.new.index d.new.boxes d.new.links) lent d.ensures in
-    made_done a.n c.in-Next.nodes (grow a.triangles.now deepest 0 (up_to a.n)) d.result a.index.now d.new.index (d.new.index ++ drop (a.n - 0) (u.new.index ++ post_of 0 (a.n - 0) a.index.now)) a.boxes.now d.new.boxes a.links.now d.new.links laid c.in-Next.is
+    made_done a.n c.in-Some.nodes (grow a.triangles.now deepest 0 (up_to a.n)) d.result a.index.now d.new.index (d.new.index ++ drop (a.n - 0) (u.new.index ++ post_of 0 (a.n - 0) a.index.now)) a.boxes.now d.new.boxes a.links.now d.new.links laid c.in-Some.is
     (ap (λ (z : List ℕ). d.new.index ++ z) (rest_again a.index.now u.new.index a.n le u.auto.index))

@@ -1,145 +1,123 @@
 -- The loop's invariant: what is left of the walk gives the whole walk's answer. Assumes nothing.
 use mathlib.Core.Path.{◌≡◌, sym, ap, ◌∙◌}
-use Prim.Native.Nat.{ℕ, ◌-◌}
+use mathlib.Core.List.{[], ◌∷◌}
+use Prim.Native.Nat.{ℕ, ◌-◌, ◌/◌}
 use lib.ListN.{length, get_or}
 use native.Mathlib.Omega.{arith}
+use Rattle.std.specs.Prelude.{Ok}
+use Rattle.std.proofs.lemmas.Result.{err_from_is_err_and}
 use Rattle.aabb.specs.declared.vector.Ray.{Ray}
-use Rattle.tree.specs.Lent.{lent, node_count}
+use Rattle.tree.specs.Lent.{Mesh, Lent}
 use Rattle.walk.specs.Answer.{told}
+use Rattle.walk.specs.Walk.{start, over, run}
 use Rattle.walk.specs.inner.Turns.{visit}
 use Rattle.walk.proofs.VisitEnds.{its_ray, its_own}
-use Rattle.walk.proofs.LoopInvariant.{begun, ended, last_of, all_below, spent, Counting, one_box, ready, stopped, missed, down_box, down, open_room, opens}
-use Rattle.walk.proofs.PendingList.{fewer, opened_last, root_last}
+use Rattle.walk.proofs.LoopInvariant.{ended, last_of, spent, Counting, one_box, ready, stopped, missed, down_box, down, open_room, opens}
+use Rattle.walk.proofs.PendingList.{fewer, opened_last}
 use Rattle.walk.proofs.run.Goals.{After-boxed-a, After-visit}
 use Rattle.walk.proofs.run.Goals as goal
 
 -- the node that is taken, with its box test counted
-counting : (b : After-boxed-a)
-    → let A = b.args in let s = lent A.triangles.now A.materials.now A.index.now A.boxes.now A.links.now in Counting s A.ray (node_count s.tree.links) b.loop-pending.pending b.loop-pending.a b.boxed-a.result
-counting b =
-    record {
-      going = b.loop-pending.invariant.0;
-      some = b.loop-pending-test.true;
-      more = b.if-nodes-a.false;
-      one = b.boxed-a.ensures;
-    }
+counting : (b : After-boxed-a) → Counting b.args.scene.now b.args.ray (length b.tree.inside.links.now / 3) b.loop-pending.pending b.loop-pending.a b.boxed-a.result
+counting b = record {
+  going = b.loop-pending.invariant.0;
+  some = b.loop-pending-test.true;
+  more = b.if-nodes-a.false;
+  one = b.boxed-a.ensures;
+}
 
 -- what its visit gives
-seen : (v : After-visit)
-    → let A = v.args in let s = lent A.triangles.now A.materials.now A.index.now A.boxes.now A.links.now in v.visit.result ≡ visit s.mesh.triangles s.tree A.ray (last_of v.loop-pending.pending) (v.loop-pending.pending.len - 1) v.boxed-a.result
+seen : (v : After-visit) → let s = v.args.scene.now in v.visit.result ≡ visit s.mesh.triangles s.tree v.args.ray (last_of v.loop-pending.pending) (v.loop-pending.pending.len - 1) v.boxed-a.result
 seen v =
-    let A = v.args in
-    let s = lent A.triangles.now A.materials.now A.index.now A.boxes.now A.links.now in
+    let s = v.args.scene.now in
     let b = v.boxed-a.result in
-    v.visit.ensures
+    v.visit.ensures.turn
     ∙ ap (λ (r : Ray). visit s.mesh.triangles s.tree r v.loop-pending.last (v.loop-pending.pending.len - 1) b) (its_ray _ _ v.of-aim.ensures)
-    ∙ ap (λ (i : ℕ). visit s.mesh.triangles s.tree A.ray i (v.loop-pending.pending.len - 1) b) (v.loop-pending.invariant.1 v.loop-pending-test.true)
-
-pub loop-pending-init : goal.loop-pending-init
-loop-pending-init c =
-    (begun _ _ _ c.requires.0 c.requires.1 c.root-pending.ensures.0 c.root-pending.ensures.1, λ h. sym (root_last _ _ c.root-pending.ensures.0 c.root-pending.ensures.1), c.root-pending.ensures.2)
-
-pub overflow_cast-result : goal.overflow_cast-result
-overflow_cast-result c =
-    let l = c.loop-pending in
-    omega (arith, l.invariant.1 c.loop-pending-test.true, (all_below l.invariant.0 c.loop-pending-test.true).0, l.invariant.0.few)
+    ∙ ap (λ (i : ℕ). visit s.mesh.triangles s.tree v.args.ray i (v.loop-pending.pending.len - 1) b) (v.loop-pending.invariant.1 v.loop-pending-test.true)
 
 pub returns-then-nodes-a : goal.returns-then-nodes-a
 unfolding told
-returns-then-nodes-a c = let l = c.loop-pending in rw (l.invariant.1 c.loop-pending-test.true) (spent l.invariant.0 c.loop-pending-test.true c.if-nodes-a.true)
-
-pub boxed-a-requires : goal.boxed-a-requires
-boxed-a-requires c = omega (arith, c.if-nodes-a.false, c.loop-pending.invariant.0.few)
+returns-then-nodes-a c =
+    let l = c.loop-pending in
+    rw (l.invariant.1 c.loop-pending-test.true) (spent l.invariant.0 c.loop-pending-test.true c.if-nodes-a.true)
+    ∙ ap (λ (n : ℕ). run c.args.scene.now c.args.ray n (0 ∷ []) start) l.invariant.0.whole
 
 pub visit-requires : goal.visit-requires
 visit-requires c =
     (rw (c.loop-pending.invariant.1 c.loop-pending-test.true) (ready (counting (goal.at.visit-requires c).After-boxed-a)), its_own _ _ c.of-aim.ensures)
 
-pub returns-in-Refuse : goal.returns-in-Refuse
+pub returns-in_err-next : goal.returns-in_err-next
 unfolding told
-returns-in-Refuse c = stopped (counting (goal.at.returns-in-Refuse c).After-boxed-a) (seen (goal.at.returns-in-Refuse c).After-visit) _ _ c.in-Refuse.is
-
-pub overflow_sub-last : goal.overflow_sub-last
-overflow_sub-last c = omega (arith, c.if-besides-gt0.true)
-
-pub offset_bounds-pending-besides : goal.offset_bounds-pending-besides
-offset_bounds-pending-besides c = omega arith
-
-pub bounds-pending-besides : goal.bounds-pending-besides
-bounds-pending-besides c = omega arith
+returns-in_err-next c =
+    let p = err_from_is_err_and c.from_residual.result c.from_residual.ensures.1 in
+    rw (p.1, p.2) (stopped (counting (goal.at.returns-in_err-next c).After-boxed-a) (seen (goal.at.returns-in_err-next c).After-visit) _ c.in_err-next.was)
+    ∙ ap (λ (n : ℕ). run c.args.scene.now c.args.ray n (0 ∷ []) start) c.loop-pending.invariant.0.whole
 
 pub loop-pending-smaller-then-besides-gt0 : goal.loop-pending-smaller-then-besides-gt0
 loop-pending-smaller-then-besides-gt0 c =
-    omega (arith, c.if-nodes-a.false, down_box (counting (goal.at.loop-pending-smaller-then-besides-gt0 c).After-boxed-a) (seen (goal.at.loop-pending-smaller-then-besides-gt0 c).After-visit) (λ k. omega (arith, c.type_inv.links k)) c.in-Down.is)
+    omega (arith, c.if-nodes-a.false, down_box (counting (goal.at.loop-pending-smaller-then-besides-gt0 c).After-boxed-a) (seen (goal.at.loop-pending-smaller-then-besides-gt0 c).After-visit) c.visit.ensures.ahead (c.in_ok-next.was ∙ ap Ok c.in-Down.is))
 
 pub loop-pending-preserved-then-besides-gt0 : goal.loop-pending-preserved-then-besides-gt0
 loop-pending-preserved-then-besides-gt0 c =
     let e = c.dropped-pending.ensures in (
-      down (counting (goal.at.loop-pending-preserved-then-besides-gt0 c).After-boxed-a) (seen (goal.at.loop-pending-preserved-then-besides-gt0 c).After-visit) (λ k. omega (arith, c.type_inv.links k)) c.in-Down.is c.dropped-pending.result e.0 (fewer _ _ _ _ e.0 e.1),
+      down (counting (goal.at.loop-pending-preserved-then-besides-gt0 c).After-boxed-a) (seen (goal.at.loop-pending-preserved-then-besides-gt0 c).After-visit) c.visit.ensures.ahead (c.in_ok-next.was ∙ ap Ok c.in-Down.is) c.dropped-pending.result e.0 (fewer _ _ _ _ e.0 e.1),
       λ h. ap (λ (k : ℕ). get_or c.dropped-pending.result.nodes (k - 1) 0) (sym e.0),
       ap length e.1 ∙ c.loop-pending.invariant.2,
     )
 
 pub loop-pending-smaller-else-besides-gt0 : goal.loop-pending-smaller-else-besides-gt0
 loop-pending-smaller-else-besides-gt0 c =
-    omega (arith, c.if-nodes-a.false, down_box (counting (goal.at.loop-pending-smaller-else-besides-gt0 c).After-boxed-a) (seen (goal.at.loop-pending-smaller-else-besides-gt0 c).After-visit) (λ k. omega (arith, c.type_inv.links k)) c.in-Down.is)
+    omega (arith, c.if-nodes-a.false, down_box (counting (goal.at.loop-pending-smaller-else-besides-gt0 c).After-boxed-a) (seen (goal.at.loop-pending-smaller-else-besides-gt0 c).After-visit) c.visit.ensures.ahead (c.in_ok-next.was ∙ ap Ok c.in-Down.is))
 
 pub loop-pending-preserved-else-besides-gt0 : goal.loop-pending-preserved-else-besides-gt0
 loop-pending-preserved-else-besides-gt0 c =
     let e = c.dropped-pending.ensures in (
-      down (counting (goal.at.loop-pending-preserved-else-besides-gt0 c).After-boxed-a) (seen (goal.at.loop-pending-preserved-else-besides-gt0 c).After-visit) (λ k. omega (arith, c.type_inv.links k)) c.in-Down.is c.dropped-pending.result e.0 (fewer _ _ _ _ e.0 e.1),
+      down (counting (goal.at.loop-pending-preserved-else-besides-gt0 c).After-boxed-a) (seen (goal.at.loop-pending-preserved-else-besides-gt0 c).After-visit) c.visit.ensures.ahead (c.in_ok-next.was ∙ ap Ok c.in-Down.is) c.dropped-pending.result e.0 (fewer _ _ _ _ e.0 e.1),
       λ h. absurd (omega (arith, h, c.if-besides-gt0.false, e.0)),
       ap length e.1 ∙ c.loop-pending.invariant.2,
     )
 
-pub overflow_sub-last-then-besides-gt0-2 : goal.overflow_sub-last-then-besides-gt0-2
-overflow_sub-last-then-besides-gt0-2 c = omega (arith, c.if-besides-gt0-2.true)
-
-pub offset_bounds-pending-besides-then-besides-gt0-2 : goal.offset_bounds-pending-besides-then-besides-gt0-2
-offset_bounds-pending-besides-then-besides-gt0-2 c = omega arith
-
-pub bounds-pending-besides-then-besides-gt0-2 : goal.bounds-pending-besides-then-besides-gt0-2
-bounds-pending-besides-then-besides-gt0-2 c = omega arith
-
 pub loop-pending-smaller-then-besides-gt0-2 : goal.loop-pending-smaller-then-besides-gt0-2
-loop-pending-smaller-then-besides-gt0-2 c =
-    omega (arith, c.if-nodes-a.false, one_box (counting (goal.at.loop-pending-smaller-then-besides-gt0-2 c).After-boxed-a))
+loop-pending-smaller-then-besides-gt0-2 c = omega (arith, c.if-nodes-a.false, one_box (counting (goal.at.loop-pending-smaller-then-besides-gt0-2 c).After-boxed-a))
 
 pub loop-pending-preserved-then-besides-gt0-2 : goal.loop-pending-preserved-then-besides-gt0-2
 loop-pending-preserved-then-besides-gt0-2 c =
     let e = c.dropped-pending-in-Missed.ensures in (
-      missed (counting (goal.at.loop-pending-preserved-then-besides-gt0-2 c).After-boxed-a) (seen (goal.at.loop-pending-preserved-then-besides-gt0-2 c).After-visit) c.in-Missed.is c.dropped-pending-in-Missed.result e.0 (fewer _ _ _ _ e.0 e.1),
+      missed (counting (goal.at.loop-pending-preserved-then-besides-gt0-2 c).After-boxed-a) (seen (goal.at.loop-pending-preserved-then-besides-gt0-2 c).After-visit) (c.in_ok-next.was ∙ ap Ok c.in-Missed.is) c.dropped-pending-in-Missed.result e.0 (fewer _ _ _ _ e.0 e.1),
       λ h. ap (λ (k : ℕ). get_or c.dropped-pending-in-Missed.result.nodes (k - 1) 0) (sym e.0),
       ap length e.1 ∙ c.loop-pending.invariant.2,
     )
 
 pub loop-pending-smaller-else-besides-gt0-2 : goal.loop-pending-smaller-else-besides-gt0-2
-loop-pending-smaller-else-besides-gt0-2 c =
-    omega (arith, c.if-nodes-a.false, one_box (counting (goal.at.loop-pending-smaller-else-besides-gt0-2 c).After-boxed-a))
+loop-pending-smaller-else-besides-gt0-2 c = omega (arith, c.if-nodes-a.false, one_box (counting (goal.at.loop-pending-smaller-else-besides-gt0-2 c).After-boxed-a))
 
 pub loop-pending-preserved-else-besides-gt0-2 : goal.loop-pending-preserved-else-besides-gt0-2
 loop-pending-preserved-else-besides-gt0-2 c =
     let e = c.dropped-pending-in-Missed.ensures in (
-      missed (counting (goal.at.loop-pending-preserved-else-besides-gt0-2 c).After-boxed-a) (seen (goal.at.loop-pending-preserved-else-besides-gt0-2 c).After-visit) c.in-Missed.is c.dropped-pending-in-Missed.result e.0 (fewer _ _ _ _ e.0 e.1),
+      missed (counting (goal.at.loop-pending-preserved-else-besides-gt0-2 c).After-boxed-a) (seen (goal.at.loop-pending-preserved-else-besides-gt0-2 c).After-visit) (c.in_ok-next.was ∙ ap Ok c.in-Missed.is) c.dropped-pending-in-Missed.result e.0 (fewer _ _ _ _ e.0 e.1),
       λ h. absurd (omega (arith, h, c.if-besides-gt0-2.false, e.0)),
       ap length e.1 ∙ c.loop-pending.invariant.2,
     )
 
 pub opened-pending-requires : goal.opened-pending-requires
 opened-pending-requires c =
-    (c.loop-pending-test.true, open_room (counting (goal.at.opened-pending-requires c).After-boxed-a) (seen (goal.at.opened-pending-requires c).After-visit) (λ k. omega (arith, c.type_inv.links k)) c.in-Open.is, c.loop-pending.invariant.2)
+    (c.loop-pending-test.true, open_room (counting (goal.at.opened-pending-requires c).After-boxed-a) (seen (goal.at.opened-pending-requires c).After-visit) c.visit.ensures.ahead (c.in_ok-next.was ∙ ap Ok c.in-Open.is), c.loop-pending.invariant.2)
 
 pub loop-pending-smaller : goal.loop-pending-smaller
-loop-pending-smaller c =
-    omega (arith, c.if-nodes-a.false, one_box (counting (goal.at.loop-pending-smaller c).After-boxed-a))
+loop-pending-smaller c = omega (arith, c.if-nodes-a.false, one_box (counting (goal.at.loop-pending-smaller c).After-boxed-a))
 
 pub loop-pending-preserved : goal.loop-pending-preserved
 loop-pending-preserved c =
     let e = c.opened-pending.ensures in (
-      opens (counting (goal.at.loop-pending-preserved c).After-boxed-a) (seen (goal.at.loop-pending-preserved c).After-visit) (λ k. omega (arith, c.type_inv.links k)) c.in-Open.is c.opened-pending.result e.0 e.1,
+      opens (counting (goal.at.loop-pending-preserved c).After-boxed-a) (seen (goal.at.loop-pending-preserved c).After-visit) c.visit.ensures.ahead (c.in_ok-next.was ∙ ap Ok c.in-Open.is) c.opened-pending.result e.0 e.1,
       λ h. sym (opened_last _ _ _ _ _ e.0 e.1),
       e.2,
     )
 
 pub returns : goal.returns
-returns c = let l = c.loop-pending in c.over.ensures ∙ ended l.invariant.0 (omega arith)
+returns c =
+    let l = c.loop-pending in
+    c.over.ensures
+    ∙ ap (λ (m : Mesh). over m c.args.ray l.a) (ap (λ (s : Lent). s.mesh) c.scene.view_is)
+    ∙ ended l.invariant.0 (omega arith)
+    ∙ ap (λ (n : ℕ). run c.args.scene.now c.args.ray n (0 ∷ []) start) l.invariant.0.whole

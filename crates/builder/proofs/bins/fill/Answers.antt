@@ -1,61 +1,55 @@
 -- What is left of the range fills the bins so far to the whole, on each axis; no bin counts more than were put in. Assumes nothing.
+use Prim.Native.Nat.{◌≤◌}
 use native.Mathlib.Omega.{arith}
 use lib.ListN.{get_or}
-use Rattle.triangle.specs.Mesh.{triangle_at}
+use lib.Ieee.{sub, mul, binary64}
+use mathlib.Core.Path.{ap}
+use Rattle.aabb.specs.declared.vector.Vec3.{Vec3}
+use Rattle.aabb.specs.Vector.{along}
+use Rattle.triangle.specs.Mesh.{triangle_at, centroid_at}
 use Rattle.lent.specs.Limits.{most_triangles}
-use Rattle.builder.proofs.Lanes.{lanes_up}
-use Rattle.builder.proofs.RangePasses.{bounds_by, centroid_by}
 use Rattle.lent.proofs.Permutation.{occ_at}
-use Rattle.builder.proofs.ThreeAxes.{ahead_again, ahead_end, ahead_start}
-use borrow.Author.Rules.{rules}
+use Rattle.builder.proofs.Filling.{ahead_start, ahead_next, ahead_end, held_up}
+use Rattle.builder.proofs.RangePasses.{bounds_by, centroid_by}
 use Rattle.builder.proofs.bins.fill.Goals as goal
 
 pub loop-i-init : goal.loop-i-init
 loop-i-init c =
     let a = c.args in
-    let v = c.requires.index_len_bound.1 in
-    (search rules, v.lanes, ahead_start a.triangles.now a.min a.scale a.index.now a.boxes.now a.counts.now v, c.requires.index_len_bound.0)
-
-pub bounds-index-i : goal.bounds-index-i
-bounds-index-i c = omega (arith, c.loop-i-test.true)
+    let m = a.triangles.now in
+    let e = c.requires.empty in
+    (ahead_start m 0 a.min.x a.scale.x a.index.now _ e.0, ahead_start m 1 a.min.y a.scale.y a.index.now _ e.1, ahead_start m 2 a.min.z a.scale.z a.index.now _ e.2)
 
 pub corners-t-requires : goal.corners-t-requires
-corners-t-requires c = c.requires.numbered _ (occ_at c.args.index.now c.loop-i.i c.loop-i-test.true)
-
-pub put_on_axes-requires : goal.put_on_axes-requires
-put_on_axes-requires c =
-    let l = c.loop-i in
-    lanes_up l.i most_triangles l.boxes l.counts (omega (arith, c.loop-i-test.true, l.invariant.3)) l.invariant.1
-
-pub overflow_add-i : goal.overflow_add-i
-overflow_add-i c = omega (arith, c.loop-i-test.true, c.loop-i.invariant.3)
-
-pub loop-i-smaller : goal.loop-i-smaller
-loop-i-smaller c = omega (arith, c.loop-i-test.true)
+corners-t-requires c = c.requires.numbered _ (occ_at c.args.index.now c.loop-i.i-index c.loop-i-test.true)
 
 pub loop-i-preserved : goal.loop-i-preserved
+unfolding centroid_at along
 loop-i-preserved c =
     let a = c.args in
-    let t = c.corners-t in
-    let m = c.centroid-c in
-    let u = c.box_of in
-    let h = c.loop-i-test.true in
+    let m = a.triangles.now in
     let l = c.loop-i in
-    let p = c.put_on_axes.ensures in
-    let i = get_or a.index.now l.i 0 in (
-      omega (arith, h),
-      p.most l.i l.invariant.1,
-      ahead_again a.triangles.now a.min a.scale a.index.now l.i l.boxes _ l.counts _ m.result u.result h
-          (centroid_by (triangle_at a.triangles.now i) t.result.v0 t.result.v1 t.result.v2 m.result t.ensures.0 t.ensures.1 t.ensures.2 m.ensures)
-          (bounds_by a.triangles.now i t.result.v0 t.result.v1 t.result.v2 u.result t.ensures.0 t.ensures.1 t.ensures.2 u.ensures)
-          p l.invariant.2,
-      l.invariant.3,
+    let v = l.invariant in
+    let h = c.loop-i-test.true in
+    let t = c.corners-t in
+    let i = get_or a.index.now l.i-index 0 in
+    let p = centroid_by (triangle_at m i) t.result.v0 t.result.v1 t.result.v2 c.centroid-c.result t.ensures.0 t.ensures.1 t.ensures.2 c.centroid-c.ensures in
+    let b = bounds_by m i t.result.v0 t.result.v1 t.result.v2 c.box_of-b.result t.ensures.0 t.ensures.1 t.ensures.2 c.box_of-b.ensures in (
+      ahead_next m 0 a.min.x a.scale.x a.index.now l.i-index l.bins.x v.0 _ _ _ h (ap (λ (z : Vec3). mul binary64 (sub binary64 z.x a.min.x) a.scale.x) p) b c.put.ensures,
+      ahead_next m 1 a.min.y a.scale.y a.index.now l.i-index l.bins.y v.1 _ _ _ h (ap (λ (z : Vec3). mul binary64 (sub binary64 z.y a.min.y) a.scale.y) p) b c.put-in-loop-i.ensures,
+      ahead_next m 2 a.min.z a.scale.z a.index.now l.i-index l.bins.z v.2 _ _ _ h (ap (λ (z : Vec3). mul binary64 (sub binary64 z.z a.min.z) a.scale.z) p) b c.put-in-loop-i-2.ensures,
     )
 
 pub returns : goal.returns
 returns c =
     let a = c.args in
-    let l = c.loop-i in record {
-      lanes = lanes_up l.i most_triangles l.boxes l.counts (omega (arith, l.invariant.0, l.invariant.3)) l.invariant.1;
-      by_index = ahead_end a.triangles.now a.min a.scale a.index.now l.i l.boxes l.counts c.loop-i-test.false l.invariant.2;
+    let m = a.triangles.now in
+    let l = c.loop-i in
+    let v = l.invariant in
+    let e = c.loop-i-test.false in
+    let few : l.i-index ≤ most_triangles = omega (arith, l.auto.i-index-end, c.requires.index_len_bound) in record {
+      held = (held_up l.i-index most_triangles l.bins.x few v.0.held, held_up l.i-index most_triangles l.bins.y few v.1.held, held_up l.i-index most_triangles l.bins.z few v.2.held);
+      on_x = ahead_end m 0 a.min.x a.scale.x a.index.now l.i-index l.bins.x v.0 e;
+      on_y = ahead_end m 1 a.min.y a.scale.y a.index.now l.i-index l.bins.y v.1 e;
+      on_z = ahead_end m 2 a.min.z a.scale.z a.index.now l.i-index l.bins.z v.2 e;
     }

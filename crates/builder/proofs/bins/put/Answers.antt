@@ -1,16 +1,19 @@
--- The box that stands there is clear, so `joined` gives the union. Assumes nothing.
-use mathlib.Core.Path.{refl}
-use Prim.Native.Nat.{◌+◌}
+-- The bin of x is read, and put back with one triangle more. Assumes nothing.
+use mathlib.Core.Path.{◌∙◌, ap}
+use Prim.Native.Nat.{ℕ}
 use native.Mathlib.Omega.{arith}
-use Rattle.lent.specs.Limits.{most_triangles}
-use Rattle.builder.proofs.Lanes.{union_put}
+use lib.ListN.{set}
+use Rattle.builder.specs.declared.bins.Bin.{Bin}
+use Rattle.builder.specs.Bins.{with_one}
 use Rattle.builder.proofs.bins.put.Goals as goal
 
-pub overflow_add-counts : goal.overflow_add-counts
-overflow_add-counts c = omega (arith, c.requires.1.most c.args.k)
+pub with-requires : goal.with-requires
+with-requires c =
+    let k = c.bin_of-k in
+    let l = c.requires in
+    (l.most k.result (omega (arith, k.ensures.1)), l.clear k.result (omega (arith, k.ensures.1)))
 
 pub returns : goal.returns
-returns c = record {
-  boxes_after = union_put (most_triangles + 1) c.args.boxes.now _ c.args.counts.now c.args.k c.args.b _ _ c.requires.0 c.requires.1 c.read-run.ensures c.joined.ensures c.put_box.ensures;
-  counts_after = refl;
-}
+returns c =
+    let a = c.args in
+    ap (λ (b : Bin). set a.bins.now c.bin_of-k.result b) c.with.ensures ∙ ap (λ (k : ℕ). with_one a.bins.now k a.b) c.bin_of-k.ensures.0

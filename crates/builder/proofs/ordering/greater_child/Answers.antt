@@ -25,8 +25,8 @@ returns-then-is_ahead c =
       number_value = r;
     }
 
-pub returns : goal.returns
-returns c =
+pub returns-else-is_ahead : goal.returns-else-is_ahead
+returns-else-is_ahead c =
     let a = c.args in
     let at = centroid_at a.triangles.now a.axis in
     let l = c.of-left.ensures in

@@ -1,5 +1,6 @@
 -- The tests are those of the order by centroid and then by number. Assumes nothing.
-use mathlib.Core.Path.{refl, sym, ◌∙◌}
+use mathlib.Core.Path.{refl, sym, ap, ◌∙◌}
+use mathlib.Core.Bool.{not}
 use lib.Dec.{ltb}
 use Rattle.float.proofs.Total.{level_lt, level_nonzero, level_real, lex_next, lex_no, lex_yes}
 use Rattle.builder.specs.Fallback.{sorts_before, under_at}
@@ -39,20 +40,20 @@ returns-then-total_less c = λ at p q.
     let A = c.args in
     let a = A.a.number in
     let b = A.b.number in
-    lex_yes _ (under_at at b a) (ltb a b) (sym (under_at_lem at a b _ _ _ _ _ c.total_less.ensures p q refl refl) ∙ c.if-total_less.true)
+    c.if-total_less.true ∙ lex_yes _ (under_at at b a) (ltb a b) (sym (under_at_lem at a b _ _ _ _ _ c.total_less.ensures p q refl refl) ∙ c.if-total_less.true)
 
-pub returns-then-total_less-2 : goal.returns-then-total_less-2
+pub returns-else-not-total_less : goal.returns-else-not-total_less
 unfolding sorts_before
-returns-then-total_less-2 c = λ at p q.
+returns-else-not-total_less c = λ at p q.
     let A = c.args in
     let a = A.a.number in
     let b = A.b.number in
-    lex_no _ _ (ltb a b) (sym (under_at_lem at a b _ _ _ _ _ c.total_less.ensures p q refl refl) ∙ c.if-total_less.false) (sym (under_at_lem at b a _ _ _ _ _ c.total_less-2.ensures q p refl refl) ∙ c.if-total_less-2.true)
+    ap not c.if-not-total_less.false ∙ lex_no _ _ (ltb a b) (sym (under_at_lem at a b _ _ _ _ _ c.total_less.ensures p q refl refl) ∙ c.if-total_less.false) (sym (under_at_lem at b a _ _ _ _ _ c.total_less-else-total_less.ensures q p refl refl) ∙ c.if-not-total_less.false)
 
-pub returns : goal.returns
+pub returns-then-not-total_less : goal.returns-then-not-total_less
 unfolding sorts_before
-returns c = λ at p q.
+returns-then-not-total_less c = λ at p q.
     let A = c.args in
     let a = A.a.number in
     let b = A.b.number in
-    lex_next _ _ _ _ (sym (under_at_lem at a b _ _ _ _ _ c.total_less.ensures p q refl refl) ∙ c.if-total_less.false) (sym (under_at_lem at b a _ _ _ _ _ c.total_less-2.ensures q p refl refl) ∙ c.if-total_less-2.false) refl
+    lex_next _ _ _ _ (sym (under_at_lem at a b _ _ _ _ _ c.total_less.ensures p q refl refl) ∙ c.if-total_less.false) (sym (under_at_lem at b a _ _ _ _ _ c.total_less-else-total_less.ensures q p refl refl) ∙ c.if-not-total_less.true) refl

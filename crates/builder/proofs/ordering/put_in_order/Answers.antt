@@ -9,7 +9,7 @@ use Rattle.builder.specs.Fallback.{sorts_before, ordered}
 use Rattle.builder.specs.inner.Heap.{HeapFrom}
 use Rattle.builder.proofs.Heaps.{heap_none, lent, sifted_end, sifted_start, turned}
 use Rattle.builder.proofs.Linear.{linear_ahead}
-use Rattle.builder.proofs.Parting.{length_swap}
+use Rattle.builder.proofs.Parting.{swapped_by}
 use Rattle.builder.proofs.Sorting.{in_order_is}
 use borrow.Author.Rules.{rules}
 use Rattle.builder.proofs.ordering.put_in_order.Goals as goal
@@ -42,12 +42,15 @@ loop-end-init c =
 pub swap-requires : goal.swap-requires
 swap-requires c =
     let l = c.loop-end in
-    (omega (arith, c.loop-end-test.true, l.invariant.0, l.invariant.3), omega (arith, c.loop-end-test.true, l.invariant.0, l.invariant.3))
+    record {
+      a_in_bounds = omega (arith, c.loop-end-test.true, l.invariant.0, l.invariant.3);
+      b_in_bounds = omega (arith, c.loop-end-test.true, l.invariant.0, l.invariant.3);
+    }
 
 pub slice_bounds-sift-end : goal.slice_bounds-sift-end
 slice_bounds-sift-end c =
     let l = c.loop-end in
-    let len = ap length c.swap.ensures ∙ length_swap l.index 0 (l.end - 1) in
+    let len = c.swap.ensures.len in
     omega (arith, c.loop-end-test.true, l.invariant.0, l.invariant.3, len)
 
 pub sift-requires-in-loop-end : goal.sift-requires-in-loop-end
@@ -55,10 +58,10 @@ sift-requires-in-loop-end c =
     let a = c.args in
     let l = c.loop-end in
     let w = c.swap in
-    let len = ap length w.ensures ∙ length_swap l.index 0 (l.end - 1) in
-    let part = length-take-le (l.end - 1 - 0) w.new.index (omega (arith, l.invariant.0, l.invariant.3, len)) in record {
+    let len = w.ensures.len in
+    let part = length-take-le (l.end - 1 - 0) w.new.self (omega (arith, l.invariant.0, l.invariant.3, len)) in record {
       index_len_bound = (omega (arith, l.invariant.3, l.invariant.0, c.loop-k.invariant.0, c.requires, part), omega arith);
-      heap_from = lent (sorts_before (centroid_at a.triangles.now a.axis)) (linear_ahead (centroid_at a.triangles.now a.axis)) l.end l.index w.new.index w.ensures l.invariant.2 c.loop-end-test.true (omega (arith, l.invariant.0, l.invariant.3));
+      heap_from = lent (sorts_before (centroid_at a.triangles.now a.axis)) (linear_ahead (centroid_at a.triangles.now a.axis)) l.end l.index w.new.self (swapped_by l.index _ 0 (l.end - 1) (omega (arith, c.loop-end-test.true, l.invariant.0, l.invariant.3)) (omega (arith, c.loop-end-test.true, l.invariant.0, l.invariant.3)) w.ensures.after) l.invariant.2 c.loop-end-test.true (omega (arith, l.invariant.0, l.invariant.3));
     }
 
 pub loop-end-preserved : goal.loop-end-preserved
@@ -67,7 +70,7 @@ loop-end-preserved c =
     let l = c.loop-end in
     let w = c.swap in
     let s = c.sift-in-loop-end in
-    let t = turned (sorts_before (centroid_at a.triangles.now a.axis)) (linear_ahead (centroid_at a.triangles.now a.axis)) l.end l.index w.new.index w.ensures l.invariant.2 c.loop-end-test.true (omega (arith, l.invariant.0, l.invariant.3)) s.new.index s.auto.index s.ensures.perm s.ensures.heap_from_2 in
+    let t = turned (sorts_before (centroid_at a.triangles.now a.axis)) (linear_ahead (centroid_at a.triangles.now a.axis)) l.end l.index w.new.self (swapped_by l.index _ 0 (l.end - 1) (omega (arith, c.loop-end-test.true, l.invariant.0, l.invariant.3)) (omega (arith, c.loop-end-test.true, l.invariant.0, l.invariant.3)) w.ensures.after) l.invariant.2 c.loop-end-test.true (omega (arith, l.invariant.0, l.invariant.3)) s.new.index s.auto.index s.ensures.perm s.ensures.heap_from_2 in
     (t.len ∙ l.invariant.0, λ v. t.same v ∙ l.invariant.1 v, t.sifted, omega (arith, l.invariant.3))
 
 pub shape_of-index : goal.shape_of-index

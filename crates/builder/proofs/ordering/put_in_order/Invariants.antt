@@ -13,11 +13,5 @@ use Rattle.builder.proofs.ordering.put_in_order.Given as goal
 abbrev pub invariant-loop-k : goal.invariant-loop-k
 invariant-loop-k l = (length l.index ≡ length l.initial.index) × Perm l.index l.initial.index × HeapFrom (sorts_before (centroid_at l.triangles l.axis)) l.k l.index × (l.k ≤ length l.initial.index)
 
-abbrev pub decreases-loop-k : goal.decreases-loop-k
-decreases-loop-k l = l.k
-
 abbrev pub invariant-loop-end : goal.invariant-loop-end
 invariant-loop-end l = (length l.index ≡ length l.initial.index) × Perm l.index l.initial.index × Sifted (sorts_before (centroid_at l.triangles l.axis)) (linear_ahead (centroid_at l.triangles l.axis)) l.end l.index × (l.end ≤ length l.initial.index)
-
-abbrev pub decreases-loop-end : goal.decreases-loop-end
-decreases-loop-end l = l.end

@@ -9,7 +9,7 @@ use Rattle.builder.specs.Fallback.{sorts_before}
 use Rattle.lent.specs.Permutation.{occ}
 use Rattle.builder.proofs.Heaps.{Nearly, nearly_next, nearly_none, nearly_start, nearly_stop, swap_second}
 use Rattle.builder.proofs.Linear.{linear_ahead}
-use Rattle.builder.proofs.Parting.{length_swap}
+use Rattle.builder.proofs.Parting.{length_swap, swapped_by}
 use Rattle.lent.proofs.Permutation.{perm_swap}
 use Rattle.builder.proofs.ordering.sift.Goals.{After-is_ahead}
 use Rattle.builder.proofs.ordering.sift.Goals as goal
@@ -45,7 +45,7 @@ swap-requires c =
     let g = c.greater_child-g.ensures.greater in
     let s = g.inside in
     let e = g.after in
-    (omega (arith, c.loop-i-test.true), s)
+    record { a_in_bounds = omega (arith, c.loop-i-test.true); b_in_bounds = s }
 
 pub loop-i-smaller : goal.loop-i-smaller
 loop-i-smaller c =
@@ -63,23 +63,23 @@ loop-i-preserved c =
     let greater = c.greater_child-g.ensures.greater in
     let s = greater.inside in
     let e = greater.after in
-    let w = c.swap.ensures in
-    let hi : l.i < length l.index = omega (arith, c.loop-i-test.true) in (
+    let hi : l.i < length l.index = omega (arith, c.loop-i-test.true) in
+    let w = swapped_by l.index _ l.i g hi s c.swap.ensures.after in (
       ap length w ∙ length_swap l.index l.i g ∙ l.invariant.0,
       λ v. ap (occ v) w ∙ perm_swap l.index l.i g hi s v ∙ l.invariant.1 v,
-      subst⁻¹ (Nearly (sorts_before at) (linear_ahead at) a.at g) w (nearly_next (sorts_before at) (linear_ahead at) a.at l.i g l.index l.invariant.2 greater (sym (told (goal.at.loop-i-preserved c).After-is_ahead) ∙ c.if-is_ahead.true)),
+      subst⁻¹ (Nearly (sorts_before at) (linear_ahead at) a.at g) w (nearly_next (sorts_before at) (linear_ahead at) a.at l.i g l.index l.invariant.2 greater (sym (told (goal.at.loop-i-preserved c).After-is_ahead) ∙ c.if-not-is_ahead.false)),
       omega (arith, l.invariant.0),
       l.invariant.4 ∙ sym (ap (λ (xs : List ℕ). get_or xs g 0) w ∙ swap_second l.index l.i g hi s (λ q. omega arith)),
     )
 
-pub returns-else-is_ahead : goal.returns-else-is_ahead
-returns-else-is_ahead c =
+pub returns-then-not-is_ahead : goal.returns-then-not-is_ahead
+returns-then-not-is_ahead c =
     let a = c.args in
     let at = centroid_at a.triangles.now a.axis in
     let l = c.loop-i in
     let g = c.greater_child-g in record {
       perm = l.invariant.1;
-      heap_from_2 = nearly_stop (sorts_before at) (linear_ahead at) a.at l.i g.result.place l.index l.invariant.2 g.ensures.greater (sym (told (goal.at.returns-else-is_ahead c).After-is_ahead) ∙ c.if-is_ahead.false);
+      heap_from_2 = nearly_stop (sorts_before at) (linear_ahead at) a.at l.i g.result.place l.index l.invariant.2 g.ensures.greater (sym (told (goal.at.returns-then-not-is_ahead c).After-is_ahead) ∙ c.if-not-is_ahead.true);
     }
 
 pub returns : goal.returns

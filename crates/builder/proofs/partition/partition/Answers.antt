@@ -5,7 +5,7 @@ use native.Mathlib.Omega.{arith}
 use mathlib.Core.Bool.{true, false}
 use lib.ListN.{length}
 use Rattle.builder.specs.Partition.{keeps_left, moves}
-use Rattle.builder.proofs.Parting.{length_swap, lower_is, moves_down, moves_end, moves_start, moves_up}
+use Rattle.builder.proofs.Parting.{length_swap, lower_is, moves_down, moves_end, moves_start, moves_up, swapped_by}
 use borrow.Author.Rules.{rules}
 use Rattle.builder.proofs.partition.partition.Goals as goal
 
@@ -32,7 +32,10 @@ pub overflow_sub-right : goal.overflow_sub-right
 overflow_sub-right c = omega (arith, c.loop-left-test.true)
 
 pub swap-requires : goal.swap-requires
-swap-requires c = (omega (arith, c.loop-left-test.true, c.loop-left.invariant.2), omega (arith, c.loop-left-test.true, c.loop-left.invariant.2))
+swap-requires c = record {
+  a_in_bounds = omega (arith, c.loop-left-test.true, c.loop-left.invariant.2);
+  b_in_bounds = omega (arith, c.loop-left-test.true, c.loop-left.invariant.2);
+}
 
 pub loop-left-smaller : goal.loop-left-smaller
 loop-left-smaller c = omega (arith, c.loop-left-test.true)
@@ -41,7 +44,7 @@ pub loop-left-preserved : goal.loop-left-preserved
 loop-left-preserved c =
     let a = c.args in
     let l = c.loop-left in
-    let s = c.swap.ensures in
+    let s = swapped_by l.index _ l.left (l.right - 1) (omega (arith, c.loop-left-test.true, l.invariant.2)) (omega (arith, c.loop-left-test.true, l.invariant.2)) c.swap.ensures.after in
     let keep = lower_is a.triangles.now a.axis a.position _ _ _ false refl c.centroid_on.ensures c.if-centroid_on-position.false in
     let len = ap length s ∙ length_swap l.index l.left (l.right - 1) in (
       len ∙ l.invariant.0,

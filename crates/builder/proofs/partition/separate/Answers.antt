@@ -2,6 +2,7 @@
 use mathlib.Core.Path.{◌∙◌}
 use native.Mathlib.Omega.{arith}
 use Rattle.builder.proofs.Growing.{left_all, left_none, left_some, split_even, split_odd}
+use Rattle.builder.proofs.partition.separate.Goals.{then-left-eq0-via-then-left-eq0, then-left-eq0-via-else-left-eq0+then-left-index}
 use Rattle.builder.proofs.partition.separate.Goals as goal
 
 pub put_in_order-requires : goal.put_in_order-requires
@@ -15,20 +16,7 @@ returns-then-left-eq0 c =
     let a = c.args in
     let p = c.partition-left in
     let o = c.put_in_order in
-    split_even a.triangles.now a.axis a.position a.index.now p.new.index o.new.index p.result p.ensures (left_none p.result _ c.if-left-eq0.true) o.ensures o.auto.index
-
-pub put_in_order-requires-then-left-index : goal.put_in_order-requires-then-left-index
-put_in_order-requires-then-left-index c = omega (arith, c.requires, c.partition-left.auto.index)
-
-pub shape_of-index-then-left-index : goal.shape_of-index-then-left-index
-shape_of-index-then-left-index c = c.put_in_order-then-left-index.auto.index ∙ c.partition-left.auto.index
-
-pub returns-then-left-index : goal.returns-then-left-index
-returns-then-left-index c =
-    let a = c.args in
-    let p = c.partition-left in
-    let o = c.put_in_order-then-left-index in
-    split_even a.triangles.now a.axis a.position a.index.now p.new.index o.new.index p.result p.ensures (left_all p.result _ c.if-left-eq0.false c.if-left-index.true) o.ensures o.auto.index
+    split_even a.triangles.now a.axis a.position a.index.now p.new.index o.new.index p.result p.ensures (elim c.then-left-eq0.branch [ then-left-eq0-via-then-left-eq0 w ↦ left_none p.result _ w.if-left-eq0.true | then-left-eq0-via-else-left-eq0+then-left-index w ↦ left_all p.result _ w.if-left-eq0.false w.if-left-index.true ]) o.ensures o.auto.index
 
 pub returns : goal.returns
 returns c =

@@ -1,6 +1,5 @@
 -- What is left of the range gives both boxes from those so far, and no number of these is a NaN. Assumes nothing.
 use mathlib.Core.Path.{sym, ◌∙◌}
-use native.Mathlib.Omega.{arith}
 use lib.ListN.{get_or}
 use Rattle.triangle.specs.Mesh.{triangle_at}
 use Rattle.aabb.proofs.Running.{clear_as, empty_clear, grown_by_lem, union_by}
@@ -15,13 +14,7 @@ loop-i-init c =
 
 pub corners-t-requires : goal.corners-t-requires
 corners-t-requires c =
-    c.requires.numbered _ (occ_at c.args.index.now c.loop-i.i c.loop-i-test.true)
-
-pub overflow_add-i : goal.overflow_add-i
-overflow_add-i c = omega (arith, c.loop-i-test.true, c.requires.index_len_bound)
-
-pub loop-i-smaller : goal.loop-i-smaller
-loop-i-smaller c = omega (arith, c.loop-i-test.true)
+    c.requires.numbered _ (occ_at c.args.index.now c.loop-i.i-index c.loop-i-test.true)
 
 pub loop-i-preserved : goal.loop-i-preserved
 loop-i-preserved c =
@@ -29,11 +22,11 @@ loop-i-preserved c =
     let l = c.loop-i in
     let h = c.loop-i-test.true in
     let v = c.corners-t in
-    let k = get_or a.index.now l.i 0 in
+    let k = get_or a.index.now l.i-index 0 in
     let b = union_by l.bounds _ _ l.invariant.2 c.joined-bounds.ensures in
     let p = grown_by_lem l.centroids _ _ l.invariant.3 c.widened-centroids.ensures in (
-      box_again a.triangles.now a.index.now l.i h l.bounds _ _ _ (bounds_by a.triangles.now k _ _ _ _ v.ensures.0 v.ensures.1 v.ensures.2 c.box_of.ensures) b.0 l.invariant.0,
-      centroids_again a.triangles.now a.index.now l.i h l.centroids _ _ _ (centroid_by (triangle_at a.triangles.now k) _ _ _ _ v.ensures.0 v.ensures.1 v.ensures.2 c.centroid.ensures) p.0 l.invariant.1,
+      box_again a.triangles.now a.index.now l.i-index h l.bounds _ _ _ (bounds_by a.triangles.now k _ _ _ _ v.ensures.0 v.ensures.1 v.ensures.2 c.box_of.ensures) b.0 l.invariant.0,
+      centroids_again a.triangles.now a.index.now l.i-index h l.centroids _ _ _ (centroid_by (triangle_at a.triangles.now k) _ _ _ _ v.ensures.0 v.ensures.1 v.ensures.2 c.centroid.ensures) p.0 l.invariant.1,
       b.1,
       p.1,
     )
@@ -42,6 +35,6 @@ pub returns : goal.returns
 returns c =
     let a = c.args in
     let l = c.loop-i in (
-      sym (box_end a.triangles.now a.index.now l.bounds l.i c.loop-i-test.false) ∙ l.invariant.0,
-      sym (centroids_end a.triangles.now a.index.now l.centroids l.i c.loop-i-test.false) ∙ l.invariant.1,
+      sym (box_end a.triangles.now a.index.now l.bounds l.i-index c.loop-i-test.false) ∙ l.invariant.0,
+      sym (centroids_end a.triangles.now a.index.now l.centroids l.i-index c.loop-i-test.false) ∙ l.invariant.1,
     )

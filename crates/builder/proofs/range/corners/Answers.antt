@@ -1,4 +1,5 @@
 -- Each vertex is the one at its place. Assumes nothing.
+use mathlib.Core.Path.{refl}
 use Rattle.triangle.specs.Mesh.{triangle_at}
 use Rattle.builder.proofs.RangePasses.{corners_same}
 use Rattle.builder.proofs.range.corners.Goals as goal
@@ -6,5 +7,4 @@ use Rattle.builder.proofs.range.corners.Goals as goal
 pub returns : goal.returns
 unfolding triangle_at
 returns c =
-    let w = c.wide-at in
-    corners_same c.args.triangles.now c.args.i w.result _ _ _ w.ensures c.three-v0.ensures c.three-v1.ensures c.three-v2.ensures
+    corners_same c.args.triangles.now c.args.i c.args.i _ _ _ refl c.three-v0.ensures c.three-v1.ensures c.three-v2.ensures

@@ -1,6 +1,4 @@
 -- Skipped, or swept over its filled bins. Assumes nothing.
-use Prim.Native.Nat.{◌*◌}
-use Rattle.builder.specs.inner.Lanes.{lane}
 use Rattle.builder.proofs.Choosing.{try_go, try_skip}
 use Rattle.builder.proofs.split.try_axis.Goals as goal
 
@@ -17,4 +15,4 @@ returns c =
     let a = c.args in
     let lo = c.along-min in
     let hi = c.along-max in
-    λ mesh range h. try_go mesh range a.centroids a.axis a.parent a.best lo.result hi.result lo.ensures hi.ensures (lane a.boxes.now a.counts.now (a.axis * 16) 16) c.scale-width.result c.sweep.result c.if-span.false h c.scale-width.ensures c.sweep.ensures
+    λ mesh range h. try_go mesh range a.centroids a.axis a.parent a.best lo.result hi.result lo.ensures hi.ensures a.bins.now c.scale-width.result c.sweep.result c.if-span.false h c.scale-width.ensures c.sweep.ensures
