@@ -84,15 +84,25 @@ both_passed checks others p = go (first_failed checks) refl (sym (further checks
     go none e q = (e, q)
     go (numbered number at) e q = apart number at (sym q)
 
--- so the call answers by the other's, or by the checks that are left
+-- so the ladder ends as the first checks do, or as those that are left
+module _ (checks others : List Check) where
+  pub failed_before : {number at : ℕ} → first_failed checks ≡ numbered number at → first_failed (checks ++ others) ≡ numbered number at
+  unfolding answered
+  failed_before p = further checks others ∙ ap (λ (r : Refusal). answered r numbered (first_failed others)) p
+
+  pub left_after : first_failed checks ≡ none → first_failed (checks ++ others) ≡ first_failed others
+  unfolding answered
+  left_after p = further checks others ∙ ap (λ (r : Refusal). answered r numbered (first_failed others)) p
+
+-- and the call answers so
 module _ {A : Type 0} (checks others : List Check) (refused : ℕ → ℕ → A) (served : A) where
   pub refused_before : {number at : ℕ} → first_failed checks ≡ numbered number at → unless (checks ++ others) refused served ≡ refused number at
   unfolding unless answered
-  refused_before p = ap (λ (r : Refusal). answered r refused served) (further checks others ∙ ap (λ (r : Refusal). answered r numbered (first_failed others)) p)
+  refused_before p = ap (λ (r : Refusal). answered r refused served) (failed_before checks others p)
 
   pub passed_before : first_failed checks ≡ none → unless (checks ++ others) refused served ≡ unless others refused served
-  unfolding unless answered
-  passed_before p = ap (λ (r : Refusal). answered r refused served) (further checks others ∙ ap (λ (r : Refusal). answered r numbered (first_failed others)) p)
+  unfolding unless
+  passed_before p = ap (λ (r : Refusal). answered r refused served) (left_after checks others p)
 
 -- ---- what the tests of code say of those of a check
 pub differ : {a b : ℕ} → (a ≡ b → ⊥) → not (eqb a b) ≡ true

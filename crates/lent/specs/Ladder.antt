@@ -49,3 +49,7 @@ mesh_checks mesh = ragged mesh ∷ crowded mesh ∷ []
 -- Refusal 18: another number of materials, where they are lent beside it
 abbrev pub unlabelled : List Float → List ℕ → Check
 unlabelled mesh materials = check (not (eqb (length materials) (triangle_count mesh))) 18 0
+
+-- of a mesh with its materials
+abbrev pub labelled_checks : List Float → List ℕ → List Check
+labelled_checks mesh materials = ragged mesh ∷ crowded mesh ∷ unlabelled mesh materials ∷ []

@@ -1,7 +1,11 @@
 // What a caller lends, in two parts: a mesh, and the lists that hold a tree over it (rules D1 to D3, D9). In a clause each is its record of lists
 // (specs/Lent.antt).
+ghost use Rattle.std.specs.Prelude.{◌≡◌, IfOk};
+ghost use Rattle.lent.specs.Ladder.{triangle_count, labelled_checks, first_failed};
+ghost use Rattle.lent.specs.Refusals.{refusal_of};
 ghost use Rattle.tree.specs.Lent.{Mesh as Faces, Lists as Nodes, Lent as Whole, mesh_of, lists_of};
 
+use lent::{Reason, Refused};
 use std::marker::Model;
 
 // Twelve numbers a triangle, and a material.
@@ -41,4 +45,21 @@ impl<'a> Model for Lent<'a> {
     ghost Value = { Whole };
 
     ghost view = { λ s. record { mesh = s.mesh; tree = s.tree } };
+}
+
+impl<'a> Mesh<'a> {
+    // How many triangles there are. Refused: 1 and 2 as `triangle::count` says; 18 there is not one material for each.
+    pub fn count(&self) -> Result<usize, Refused>
+        ensures refusal { refusal_of result ≡ first_failed (labelled_checks self.now.triangles self.now.materials) }
+        ensures count { IfOk result (λ n. n ≡ triangle_count self.now.triangles) }
+    {
+        let n = triangle::count(self.triangles)?;
+        if self.materials.len() != n {
+            return Err(Refused {
+                reason: Reason::Unlabelled,
+                at: 0,
+            });
+        }
+        Ok(n)
+    }
 }
