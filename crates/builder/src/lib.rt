@@ -42,19 +42,7 @@ pub fn build(
 ) -> Result<Built, Refused>
     ensures { outcome (reply result) index.new boxes.new links.new ≡ built triangles.now index.old boxes.old links.old }
 {
-    if triangles.len() % 12 != 0 {
-        return Err(Refused {
-            reason: Reason::Ragged,
-            at: 0,
-        });
-    }
-    let n = triangles.len() / 12;
-    if lent::MOST_TRIANGLES < n {
-        return Err(Refused {
-            reason: Reason::Crowded,
-            at: n,
-        });
-    }
+    let n = triangle::count(triangles)?;
     if index.len() < n {
         return Err(Refused {
             reason: Reason::ShortIndex,

@@ -6,8 +6,10 @@ use mathlib.Core.List.{List, [], ◌∷◌, ◌++◌}
 use Prim.Native.Nat.{ℕ, ◌≤◌, ◌<◌}
 use native.Mathlib.Omega.{arith}
 use borrow.Author.Tests.{eq-eqb, ne_eqb, eqb-true, lt-ltb, le-ltb}
-use lib.Dec.{eqb, ltb}
-use Rattle.lent.specs.Ladder.{Refusal, none, Check, numbered, check, first_failed, answered, unless}
+use lib.Dec.{eqb, ltb, nltb→le}
+use lib.Ieee.{Float}
+use Rattle.lent.specs.Limits.{most_triangles}
+use Rattle.lent.specs.Ladder.{Refusal, none, Check, numbered, check, first_failed, answered, unless, triangle_count, mesh_checks}
 use Rattle.lent.specs.Members.{Every}
 
 -- x is what a call with these checks answers
@@ -123,3 +125,10 @@ below {a} {b} h = lt-ltb a b h
 
 pub not_below : {a b : ℕ} → b ≤ a → ltb a b ≡ false
 not_below {a} {b} h = le-ltb a b h
+
+-- ---- a mesh that is not refused by those that speak of it alone
+pub few_triangles : (mesh : List Float) → first_failed (mesh_checks mesh) ≡ none → triangle_count mesh ≤ most_triangles
+few_triangles mesh p = at_most (each_passed (mesh_checks mesh) p).1.0
+  where
+    at_most : {a b : ℕ} → ltb a b ≡ false → b ≤ a
+    at_most {a} {b} q = nltb→le a b (rw q tt)

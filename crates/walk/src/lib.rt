@@ -117,26 +117,7 @@ fn checked(scene: &Lent, ray: Ray) -> Result<Answer, Refused>
 {
     let mesh = &scene.mesh;
     let tree = &scene.tree;
-    let numbers = mesh.triangles.len();
-    if numbers % 12 != 0 {
-        return Err(Refused {
-            reason: Reason::Ragged,
-            at: 0,
-        });
-    }
-    let n = numbers / 12;
-    if lent::MOST_TRIANGLES < n {
-        return Err(Refused {
-            reason: Reason::Crowded,
-            at: n,
-        });
-    }
-    if mesh.materials.len() != n {
-        return Err(Refused {
-            reason: Reason::Unlabelled,
-            at: 0,
-        });
-    }
+    mesh.count()?;
     if !ray.admitted() {
         return Err(Refused {
             reason: Reason::BadRay,
