@@ -49,6 +49,7 @@ impl<'a> Model for Lent<'a> {
 
 impl<'a> Mesh<'a> {
     // How many triangles there are. Refused: 1 and 2 as `triangle::count` says; 18 there is not one material for each.
+    #[tactic(auto, unfolding(lent::specs::Ladder::first_failed))]
     pub fn count(&self) -> Result<usize, Refused>
         ensures refusal { refusal_of result ≡ first_failed (labelled_checks self.now.triangles self.now.materials) }
         ensures count { IfOk result (λ n. n ≡ triangle_count self.now.triangles) }

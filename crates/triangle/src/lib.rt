@@ -232,6 +232,7 @@ impl Crossing {
 }
 
 // How many triangles a mesh has. Refused: 1 its numbers are not in twelves; 2 it has more than 65,536 triangles (at: how many).
+#[tactic(auto, unfolding(lent::specs::Ladder::first_failed))]
 pub fn count(mesh: &[f64]) -> Result<usize, Refused>
     ensures refusal { refusal_of result ≡ first_failed (mesh_checks mesh.now) }
     ensures count { IfOk result (λ n. n ≡ triangle_count mesh.now) }

@@ -46,6 +46,7 @@ fn direction(cross: Vec3) -> Vec3
 
 // Refills every normal of a mesh, twelve numbers a triangle, from the corners (rule T7); no other number changes. Refused, in this order, and then nothing
 // is written: 1 the numbers are not in twelves; 2 more than 65,536 triangles (at: how many); 5 a triangle isn't admitted (at: the lowest number).
+#[tactic(auto, unfolding(crate::specs::Refilled::refilled, crate::specs::Mesh::unadmitted, lent::specs::Ladder::unless, lent::specs::Ladder::answered, lent::specs::Ladder::first_failed))]
 pub fn refill_normals(mesh: &mut [f64]) -> Result<(), Refused>
     ensures { outcome (refusal_of result) mesh.new ≡ refilled mesh.old }
 {

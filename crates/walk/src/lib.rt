@@ -112,6 +112,7 @@ fn run(scene: &Lent, ray: Ray) -> Result<Answer, Refused>
 }
 
 // What can be told before any step, then the steps.
+#[tactic(auto, using(tree::proofs::Fitted::fitting), unfolding(crate::specs::Walk::walk, crate::specs::Answer::told, lent::specs::Ladder::unless, lent::specs::Ladder::answered, lent::specs::Ladder::first_failed))]
 fn checked(scene: &Lent, ray: Ray) -> Result<Answer, Refused>
     ensures { told (answer result) ≡ walk scene.now ray }
 {
