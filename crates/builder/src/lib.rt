@@ -34,6 +34,7 @@ pub struct Built {
 // many); 3 less index room than one a triangle; 4 room for fewer nodes than the triangles can have, in boxes or in links (at: how many,
 // 2n-1 or 1); 5 a triangle isn't admitted (at: the lowest such number); 6 the tree would go deeper than 63. Refusals 1 to 5 write nothing;
 // after 6 every number that was lent to be written is zero.
+#[tactic(auto, using(crate::proofs::StartLoops::room_is), unfolding(crate::specs::Build::built, crate::specs::Reply::reply, triangle::specs::Mesh::unadmitted, lent::specs::Ladder::unless, lent::specs::Ladder::answered, lent::specs::Ladder::first_failed))]
 pub fn build(
     triangles: &[f64],
     index: &mut [u32],
