@@ -23,12 +23,6 @@ pub made : (r : Ray) (x y z : Sight) → x ≡ sighted r.origin.x r.direction.x 
 unfolding aimed
 made r x y z p q e i = record { ray = r; x = p i; y = q i; z = e i }
 
-pub sight_rest : (axis : ℕ) (m : Aim) → (axis ≡ 0 → ⊥) → (axis ≡ 1 → ⊥) → m.z ≡ sight_on axis m
-unfolding sight_on
-sight_rest zero m p q = absurd (p refl)
-sight_rest (suc zero) m p q = absurd (q refl)
-sight_rest (suc (suc k)) m p q = refl
-
 -- ---- the loop
 pub record Running (m : Aim) (b : Aabb) (axis : ℕ) (enter exit : Float) : Type 0 where
   pub upto : axis ≤ 3

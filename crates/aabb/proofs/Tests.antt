@@ -1,22 +1,19 @@
 -- What the code of vectors and boxes tests is what the definitions say: one law for each kind of branch. Assumes nothing.
 use mathlib.Core.Path.{◌≡◌, refl, sym, ◌∙◌}
-use Prim.Native.Nat.{ℕ, zero, suc, ◌+◌, ◌*◌, ◌/◌, ◌≤◌, ◌<◌, min}
-use native.Mathlib.Nat.{add_assoc, add-zero, mul-zero, mul-le-mul_right, div-mul-le_self, lt-div-mul-add}
+use Prim.Native.Nat.{ℕ, ◌+◌, ◌≤◌, min}
+use native.Mathlib.Nat.{add_assoc, add-zero}
 use native.Mathlib.Omega.{arith, min_cases}
 use mathlib.Core.Bool.{Bool, true, false, ◌&&◌, ◌||◌}
 use mathlib.Core.List.{List}
 use lib.Dec.{T}
 use lib.IntN.{ℤ}
 use lib.ListN.{length, get_or-eq_default}
-use lib.Ieee.{Float, nan, inf, fin, binary64, of_bits, add, mul, div, neg, lt, le}
-use Rattle.float.specs.Number.{nought, two, infinity}
+use lib.Ieee.{Float, nan, inf, fin, binary64, of_bits, div, neg, lt, le}
+use Rattle.float.specs.Number.{nought}
 use Rattle.float.specs.Pick.{magnitude}
 use Rattle.float.proofs.Order.{under→le, le_trans}
-use Rattle.float.proofs.Cases.{and_go, and_no}
 use Rattle.aabb.specs.declared.vector.Vec3.{Vec3}
-use Rattle.aabb.specs.declared.bounds.Aabb.{Aabb}
-use Rattle.aabb.specs.Vector.{vec, along, within, all_equal, number_at, vector_at}
-use Rattle.aabb.specs.Bounds.{extent, area, area_of, is_empty, box}
+use Rattle.aabb.specs.Vector.{vec, within, number_at, vector_at}
 
 -- ---- vectors
 -- a magnitude is at most a limit where the number and its opposite are
@@ -52,32 +49,10 @@ pub side_within : (x l : Float) → le x l ≡ true → le (neg x) l ≡ within 
 unfolding within
 side_within x l h = rw (sides x l, h)
 
-pub along_rest : (axis : ℕ) (a : Vec3) → (axis ≡ 0 → ⊥) → (axis ≡ 1 → ⊥) → a.z ≡ along axis a
-unfolding along
-along_rest zero a p q = absurd (p refl)
-along_rest (suc zero) a p q = absurd (q refl)
-along_rest (suc (suc k)) a p q = refl
-
 -- ---- boxes
-pub empty_both : (a b : Vec3) (i : Float) (s t : Bool) → i ≡ infinity → s ≡ all_equal i a → s ≡ true → t ≡ all_equal (neg i) b → t ≡ is_empty (box a b)
-unfolding is_empty
-empty_both a b i s t p q h r = rw (← p) (and_go _ _ _ (sym q ∙ h) r)
-
-pub empty_none : (a b : Vec3) (i : Float) (s : Bool) → i ≡ infinity → s ≡ all_equal i a → s ≡ false → false ≡ is_empty (box a b)
-unfolding is_empty
-empty_none a b i s p q h = rw (← p) (and_no _ _ (sym q ∙ h))
 
 abbrev pub Negative : Vec3 → Bool
 Negative d = lt d.x nought || (lt d.y nought || lt d.z nought)
-
-pub area_flat : (b : Aabb) (d : Vec3) → d ≡ extent b → true ≡ Negative d → nought ≡ area b
-unfolding area area_of
-area_flat b d p q = rw (← p, ← q)
-
-pub area_full : (b : Aabb) (d : Vec3) → d ≡ extent b → false ≡ Negative d
-    → mul binary64 two (add binary64 (add binary64 (mul binary64 d.x d.y) (mul binary64 d.y d.z)) (mul binary64 d.z d.x)) ≡ area b
-unfolding area area_of
-area_full b d p q = rw (← p, ← q)
 
 -- ---- numbers of a lent slice
 nan_is : div binary64 (of_bits binary64 0) (of_bits binary64 0) ≡ nan
@@ -108,14 +83,6 @@ pub vector_start : (l : List Float) (a : ℕ) → vector_at l (min a (length l))
 vector_start l a = rw (← add-zero (min a (length l)), vector_from l a 0, add-zero a)
 
 -- ---- where a record starts
-pub place_none : (i w n : ℕ) → w ≡ 0 → 0 ≡ min (i * w) n
-place_none i w n p = rw (p, mul-zero i) (omega arith)
-
-pub place_whole : (i w n : ℕ) → (w ≡ 0 → ⊥) → i ≤ n / w → i * w ≤ n
-place_whole i w n p h = let k = mul-le-mul_right w h in omega (arith, div-mul-le_self n w)
-
-pub place_end : (i w n : ℕ) → (w ≡ 0 → ⊥) → n / w < i → n ≤ i * w
-place_end i w n p h = let k = mul-le-mul_right w h in omega (arith, lt-div-mul-add {a = n} {b = w} (omega arith))
 
 -- two vectors, one after the other, whatever they make
 pub pair_starts : {A : Type 0} (f : Vec3 → Vec3 → A) (l : List Float) (a at : ℕ) (lo hi : Vec3) → at ≡ min a (length l) → lo ≡ vector_at l at → hi ≡ vector_at l (at + 3) → f lo hi ≡ f (vector_at l a) (vector_at l (a + 3))

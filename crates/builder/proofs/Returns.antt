@@ -75,9 +75,3 @@ module _ (xs c : List ℕ) (n : ℕ) (h : n ≤ length xs) (e : length c ≡ len
       omega arith
 
 -- ---- where every check before that of refusal 5 passed
-pub past_room : (m : List Float) (xs : List ℕ) (bs : List Float) (ls : List ℕ) (k n : ℕ) (x : Outcome) → first_failed (mesh_checks m) ≡ clear → n ≡ triangle_count m → n ≤ length xs → k ≡ room n → k ≤ length bs / 6 → k ≤ length ls / 3
-    → Ends (unadmitted (first_refused m 0 n) ∷ []) (λ number at. outcome (refused_reply number at) xs bs ls) (finished n (grow m deepest 0 (up_to n)) xs bs ls) x → x ≡ built m xs bs ls
-unfolding built
-past_room m xs bs ls k n x mesh count listed e boxed linked rest =
-    let f : k ≡ room (triangle_count m) = e ∙ ap room count in
-    rw (← f) (ends (goes (not_below (rw count at listed)) (goes (not_below boxed) (goes (not_below linked) (rw count at rest)))) ∙ sym (passed_before (mesh_checks m) _ _ _ mesh))

@@ -6,10 +6,8 @@ use mathlib.Core.List.{List, [], ◌∷◌, ◌++◌}
 use Prim.Native.Nat.{ℕ, ◌≤◌, ◌<◌}
 use native.Mathlib.Omega.{arith}
 use borrow.Author.Tests.{eq-eqb, ne_eqb, eqb-true, lt-ltb, le-ltb}
-use lib.Dec.{eqb, ltb, nltb→le}
-use lib.Ieee.{Float}
-use Rattle.lent.specs.Limits.{most_triangles}
-use Rattle.lent.specs.Ladder.{Refusal, none, Check, numbered, check, first_failed, answered, unless, triangle_count, mesh_checks}
+use lib.Dec.{eqb, ltb}
+use Rattle.lent.specs.Ladder.{Refusal, none, Check, numbered, check, first_failed, answered, unless}
 use Rattle.lent.specs.Members.{Every}
 
 -- x is what a call with these checks answers
@@ -86,26 +84,6 @@ both_passed checks others p = go (first_failed checks) refl (sym (further checks
     go none e q = (e, q)
     go (numbered number at) e q = apart number at (sym q)
 
--- so the ladder ends as the first checks do, or as those that are left
-module _ (checks others : List Check) where
-  pub failed_before : {number at : ℕ} → first_failed checks ≡ numbered number at → first_failed (checks ++ others) ≡ numbered number at
-  unfolding answered
-  failed_before p = further checks others ∙ ap (λ (r : Refusal). answered r numbered (first_failed others)) p
-
-  pub left_after : first_failed checks ≡ none → first_failed (checks ++ others) ≡ first_failed others
-  unfolding answered
-  left_after p = further checks others ∙ ap (λ (r : Refusal). answered r numbered (first_failed others)) p
-
--- and the call answers so
-module _ {A : Type 0} (checks others : List Check) (refused : ℕ → ℕ → A) (served : A) where
-  pub refused_before : {number at : ℕ} → first_failed checks ≡ numbered number at → unless (checks ++ others) refused served ≡ refused number at
-  unfolding unless answered
-  refused_before p = ap (λ (r : Refusal). answered r refused served) (failed_before checks others p)
-
-  pub passed_before : first_failed checks ≡ none → unless (checks ++ others) refused served ≡ unless others refused served
-  unfolding unless
-  passed_before p = ap (λ (r : Refusal). answered r refused served) (left_after checks others p)
-
 -- ---- what the tests of code say of those of a check
 pub differ : {a b : ℕ} → (a ≡ b → ⊥) → not (eqb a b) ≡ true
 differ {a} {b} n = ap not (ne_eqb a b n)
@@ -125,10 +103,3 @@ below {a} {b} h = lt-ltb a b h
 
 pub not_below : {a b : ℕ} → b ≤ a → ltb a b ≡ false
 not_below {a} {b} h = le-ltb a b h
-
--- ---- a mesh that is not refused by those that speak of it alone
-pub few_triangles : (mesh : List Float) → first_failed (mesh_checks mesh) ≡ none → triangle_count mesh ≤ most_triangles
-few_triangles mesh p = at_most (each_passed (mesh_checks mesh) p).1.0
-  where
-    at_most : {a b : ℕ} → ltb a b ≡ false → b ≤ a
-    at_most {a} {b} q = nltb→le a b (rw q tt)

@@ -16,14 +16,14 @@ use Rattle.float.proofs.Order.{lt→le, le→real_l, not_lt→le}
 use Rattle.float.proofs.Monotone.{sub_turns}
 use Rattle.aabb.specs.declared.vector.Vec3.{Vec3}
 use Rattle.aabb.specs.declared.vector.Ray.{Ray}
-use Rattle.aabb.specs.Vector.{plus, divided, negated, dot, within, all_within, point_at, number_at, vector_at}
+use Rattle.aabb.specs.Vector.{plus, divided, within, all_within, number_at, vector_at}
 use Rattle.aabb.proofs.Tests.{vector_start, vector_from}
 use Rattle.triangle.specs.declared.Triangle.{Triangle}
 use Rattle.triangle.specs.declared.Corners.{Corners}
 use Rattle.triangle.specs.declared.Crossing.{Crossing}
 use Rattle.triangle.specs.declared.Hit.{Hit}
 use Rattle.triangle.specs.Mesh.{triangle_at, corners_of, centroid_of, admitted_triangle}
-use Rattle.triangle.specs.Meeting.{crossing_of, judged, distance_to, faces, hit_at}
+use Rattle.triangle.specs.Meeting.{crossing_of, judged, distance_to}
 
 module _ (d m u v t : Float) (q : m ≡ magnitude d) where
   pub none_det : lt m ten_billionth ≡ true → None ≡ judged d u v t
@@ -102,15 +102,6 @@ none_first d u v t low all x y h = go (lt (magnitude d) ten_billionth) (le nough
 -- ---- the hit
 abbrev pub hit : Float → Vec3 → Vec3 → Float → Float → Bool → ℕ → ℕ → Hit
 hit t point normal u v front k m = record { t = t; point = point; normal = normal; u = u; v = v; front = front; triangle = k; material = m }
-
-pub hit_front : (r : Ray) (a : Triangle) (k m : ℕ) (t : Float) (point : Vec3) (c : Corners) (x : Crossing) (d : Float) → point ≡ point_at r t → c ≡ corners_of a → x ≡ crossing_of r c → d ≡ dot r.direction a.normal → lt d nought ≡ true → hit t point a.normal x.u x.v true k m ≡ hit_at r a k m t
-unfolding hit_at faces crossing_of
-hit_front r a k m t point c x d p i j q h = rw (← p, ← q, h, j, i)
-
-pub hit_back : (r : Ray) (a : Triangle) (k m : ℕ) (t : Float) (point turned : Vec3) (c : Corners) (x : Crossing) (d : Float) → point ≡ point_at r t → c ≡ corners_of a → x ≡ crossing_of r c → d ≡ dot r.direction a.normal → lt d nought ≡ false → turned ≡ negated a.normal
-    → hit t point turned x.u x.v false k m ≡ hit_at r a k m t
-unfolding hit_at faces crossing_of
-hit_back r a k m t point turned c x d p i j q h e = rw (← p, ← q, h, ← e, j, i)
 
 -- ---- reading
 abbrev pub triangle : Vec3 → Vec3 → Vec3 → Vec3 → Triangle

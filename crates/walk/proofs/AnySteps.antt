@@ -41,15 +41,6 @@ module _ {A : Type 0} (entry : ℕ → A → Went A) (s : Lists) (r : Ray) (i : 
     outside p = rw (h, p)
 
     module _ (p : passes r x.bounds ≡ true) where
-      module _ (k : x.kind ≡ 1) where
-        pub leaf_beyond : length s.index < left_or_first x + x.count → step_by entry s r i x rest a go ≡ stop 9 i
-        unfolding step_by leaf_by and_then
-        leaf_beyond l = rw (h, p, eq-eqb x.kind 1 k, lt-ltb (length s.index) (left_or_first x + x.count) l)
-
-        pub leaf_within : left_or_first x + x.count ≤ length s.index → step_by entry s r i x rest a go ≡ and_then (entries entry x.count (left_or_first x) a) (go rest)
-        unfolding step_by leaf_by
-        leaf_within l = rw (h, p, eq-eqb x.kind 1 k, le-ltb (length s.index) (left_or_first x + x.count) l)
-
       module _ (k : x.kind ≡ 1 → ⊥) where
         pub child_beyond : (leb (node_count s.links) (left_of i x) || leb (node_count s.links) (right_of i x)) ≡ true → step_by entry s r i x rest a go ≡ stop 9 i
         unfolding step_by internal_by

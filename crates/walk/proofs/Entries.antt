@@ -28,8 +28,6 @@ pub record Judging (mesh : List Float) (index : List ℕ) (first count place : �
   pub same : verdict mesh index (first + count - place) place ≡ verdict mesh index count first
 
 module _ (mesh : List Float) (index : List ℕ) where
-  pub judging_begun : (first count : ℕ) → Judging mesh index first count first
-  judging_begun first count = record { same = let e : (first + count) - first ≡ count = omega arith in ap (λ (k : ℕ). verdict mesh index k first) e }
 
   none_judged : (left p : ℕ) → left ≡ 0 → verdict mesh index left p ≡ Ok tt
   unfolding verdict
@@ -66,8 +64,6 @@ pub record Testing (mesh : List Float) (index : List ℕ) (r : Ray) (first count
   pub same : nearest_of mesh index r (first + count - place) place found ≡ nearest_of mesh index r count first best
 
 module _ (mesh : List Float) (index : List ℕ) (r : Ray) where
-  pub testing_begun : (first count : ℕ) (best : Option Met) → Testing mesh index r first count best first best
-  testing_begun first count best = record { same = let e : (first + count) - first ≡ count = omega arith in ap (λ (k : ℕ). nearest_of mesh index r k first best) e }
 
   none_tested : (left p : ℕ) (best : Option Met) → left ≡ 0 → nearest_of mesh index r left p best ≡ best
   unfolding nearest_of
