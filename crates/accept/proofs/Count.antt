@@ -5,7 +5,7 @@ use mathlib.Core.Logic.{⊎_elim}
 use Prim.Native.Nat.{ℕ, zero, suc, ◌+◌, ◌≤◌, ◌<◌}
 use native.Mathlib.Omega.{arith}
 use Rattle.float.proofs.Cases.{same?}
-use Rattle.accept.specs.Lowest.{tick, any, count}
+use Rattle.accept.specs.Count.{tick, any, count}
 
 pub tick_at_most : (t : Bool) → tick t ≤ 1
 tick_at_most true = omega arith

@@ -12,7 +12,7 @@ use Rattle.float.proofs.Cases.{same?}
 use Rattle.lent.specs.Limits.{most_nodes}
 use Rattle.tree.specs.Lent.{Lent}
 use Rattle.tree.specs.Node.{node_at, linked, left_of, right_of}
-use Rattle.accept.specs.Lowest.{tick, count}
+use Rattle.accept.specs.Count.{tick, count}
 use Rattle.accept.specs.Conditions.{nodes, parent, breaks_2, reached}
 use Rattle.accept.specs.inner.Room.{several, parent_at, adopted, named, orphan, climbs}
 use Rattle.accept.proofs.Count.{count_more, count_same, count_one, any_one}

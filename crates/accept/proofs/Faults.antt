@@ -1,4 +1,4 @@
--- Condition (i) at one node, by the tests of the code. Assumes nothing.
+-- Condition (i) at one node, by one test after the other. Assumes nothing.
 use mathlib.Core.Path.{◌≡◌, refl, sym, ◌∙◌, ap}
 use mathlib.Core.Bool.{Bool, true, false, not, ◌&&◌, ◌||◌, cond}
 use mathlib.Core.Logic.{⊎_elim}

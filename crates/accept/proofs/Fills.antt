@@ -1,38 +1,21 @@
 -- Laws for the loops that fill, count and write down. Assumes nothing.
 use mathlib.Core.Path.{◌≡◌, refl, sym, ◌∙◌, ap}
-use mathlib.Core.Bool.{Bool, true, false, ◌&&◌, ◌||◌, cond}
-use mathlib.Core.List.{List, [], ◌∷◌, ◌++◌}
+use mathlib.Core.Bool.{Bool, true, false, ◌||◌, cond}
+use mathlib.Core.List.{List}
 use mathlib.Core.Logic.{◌⊎◌, inl, inr, ⊎_elim}
 use Prim.Native.Nat.{ℕ, zero, suc, ◌+◌, ◌-◌, ◌≤◌, ◌<◌}
 use native.Mathlib.Omega.{arith}
 use native.Mathlib.Numerals.{add-one}
 use lib.Dec.{eqb}
-use lib.ListN.{length, get_or, set, take, replicate, length-set, length-replicate, get_or-replicate, replicate-append-replicate}
-use lib.Ieee.{Float}
-use Rattle.aabb.specs.declared.bounds.Aabb.{Aabb}
-use Rattle.aabb.specs.Bounds.{holds}
-use Rattle.triangle.specs.declared.Triangle.{Triangle}
-use Rattle.triangle.specs.declared.Corners.{Corners}
-use Rattle.triangle.specs.Mesh.{triangle_at, corners_of}
-use lib.Seq.{take_all, take-suc-set, get_or-set_same, get_or-set_other}
+use lib.ListN.{length, get_or, set, replicate, length-set, length-replicate, get_or-replicate}
+use lib.Seq.{get_or-set_same, get_or-set_other}
 use borrow.Author.Tests.{eq-eqb, ne_eqb, le-leb, lt-leb}
 use Rattle.float.proofs.Cases.{same?}
 use Rattle.tree.specs.Lent.{node_count}
-use Rattle.accept.specs.Lowest.{tick, any, count}
-use Rattle.accept.specs.Conditions.{misplaced, holds_all, holds_each}
+use Rattle.accept.specs.Count.{tick, any, count}
+use Rattle.accept.specs.Conditions.{misplaced}
 use Rattle.accept.specs.inner.Room.{first_at, count_at, kind_at, parent_at, adopted, named, climbs, begins, ends, uneven, Balanced}
 use Rattle.accept.proofs.Count.{count_more}
-
--- ---- one number throughout
-pub all_written : {A : Type 0} (f : ℕ → List A) (xs : List A) (i n : ℕ) → i ≤ n → length xs ≤ i → length xs ≡ n → take i xs ≡ f i → xs ≡ f n
-all_written f xs i n h l k e = sym (take_all i xs l) ∙ e ∙ ap f (same i n (length xs) h l k)
-  where
-    same : (i n k : ℕ) → i ≤ n → k ≤ i → k ≡ n → i ≡ n
-    same i n k h l e = omega arith
-
-pub rep_more : {A : Type 0} (xs : List A) (v : A) (i : ℕ) → i < length xs → take i xs ≡ replicate i v → take (i + 1) (set xs i v) ≡ replicate (i + 1) v
-rep_more xs v i h e =
-    ap (λ (n : ℕ). take n (set xs i v)) (add-one i) ∙ take-suc-set xs i v h ∙ ap (λ (z : List _). z ++ (v ∷ [])) e ∙ replicate-append-replicate i 1 v
 
 -- ---- up from a node
 module _ (work : List ℕ) where
@@ -73,10 +56,6 @@ adopt_at work child i j l = ⊎_elim here there (same? j child)
     there : (j ≡ child → ⊥) → get_or (set work child (adopted (get_or work child 0) i)) j 0 ≡ cond (eqb j child) (adopted (get_or work j 0) i) (get_or work j 0)
     there n = rw (ne_eqb j child n) (get_or-set_other work child j _ 0 n)
 
-either : (a b : Bool) (x y : ℕ) → (a ≡ true → b ≡ false) → cond b (cond a y x) (cond a y x) ≡ cond a y x → cond (a || b) y x ≡ cond a y (cond b y x)
-either true b x y f e = refl
-either false b x y f e = refl
-
 pub both_adopt : (links work after last : List ℕ) (i : ℕ) → kind_at links i ≡ 0
     → after ≡ set work (first_at links i) (adopted (get_or work (first_at links i) 0) i)
     → last ≡ set after (first_at links i + 1) (adopted (get_or after (first_at links i + 1) 0) i)
@@ -110,50 +89,6 @@ unfolding named
 named_none links j = refl
 
 -- ---- where leaves begin and end
-pub counted : (work : List ℕ) (from at v k : ℕ) → from ≤ at → at - from < length work → k < length work
-    → get_or (set work (at - from) v) k 0 ≡ cond (eqb (from + k) at) v (get_or work k 0)
-counted work from at v k h l m = ⊎_elim here there (same? (from + k) at)
-  where
-    here : from + k ≡ at → get_or (set work (at - from) v) k 0 ≡ cond (eqb (from + k) at) v (get_or work k 0)
-    here e = rw (eq-eqb (from + k) at e) (ap (λ (z : ℕ). get_or (set work (at - from) v) z 0) (back (at - from) (omega arith)) ∙ get_or-set_same work (at - from) v 0 l)
-      where
-        back : (z : ℕ) → k ≡ z → k ≡ z
-        back z p = p
-
-    there : (from + k ≡ at → ⊥) → get_or (set work (at - from) v) k 0 ≡ cond (eqb (from + k) at) v (get_or work k 0)
-    there n = rw (ne_eqb (from + k) at n) (get_or-set_other work (at - from) k v 0 (λ e. n (omega arith)))
-
-module _ (work : List ℕ) (from at : ℕ) where
-  place_of : (k : ℕ) → from ≤ at → from + k ≡ at → k ≡ at - from
-  place_of k h e = omega arith
-
-  pub one_more : from ≤ at → at - from < length work → (k : ℕ) → k < length work
-      → get_or (set work (at - from) (get_or work (at - from) 0 + 1)) k 0 ≡ get_or work k 0 + tick (eqb (from + k) at)
-  one_more h l k m = counted work from at _ k h l m ∙ ⊎_elim here there (same? (from + k) at)
-    where
-      here : from + k ≡ at → cond (eqb (from + k) at) (get_or work (at - from) 0 + 1) (get_or work k 0) ≡ get_or work k 0 + tick (eqb (from + k) at)
-      here e = rw (eq-eqb (from + k) at e) (ap (λ (z : ℕ). get_or work z 0 + 1) (sym (place_of k h e)))
-
-      there : (from + k ≡ at → ⊥) → cond (eqb (from + k) at) (get_or work (at - from) 0 + 1) (get_or work k 0) ≡ get_or work k 0 + tick (eqb (from + k) at)
-      there n = rw (ne_eqb (from + k) at n) (omega arith)
-
-  pub one_less : from ≤ at → at - from < length work → 0 < get_or work (at - from) 0 → (k : ℕ) → k < length work
-      → get_or (set work (at - from) (get_or work (at - from) 0 - 1)) k 0 + tick (eqb (from + k) at) ≡ get_or work k 0
-  one_less h l z k m = ap (λ (w : ℕ). w + tick (eqb (from + k) at)) (counted work from at _ k h l m) ∙ ⊎_elim here there (same? (from + k) at)
-    where
-      here : from + k ≡ at → cond (eqb (from + k) at) (get_or work (at - from) 0 - 1) (get_or work k 0) + tick (eqb (from + k) at) ≡ get_or work k 0
-      here e = rw (eq-eqb (from + k) at e) (omega (arith, ap (λ (z : ℕ). get_or work z 0) (place_of k h e)))
-
-      there : (from + k ≡ at → ⊥) → cond (eqb (from + k) at) (get_or work (at - from) 0 - 1) (get_or work k 0) + tick (eqb (from + k) at) ≡ get_or work k 0
-      there n = rw (ne_eqb (from + k) at n) (omega arith)
-
-  -- a place that the room lacks
-  pub elsewhere : (from ≤ at → length work ≤ at - from) → (k : ℕ) → k < length work → tick (eqb (from + k) at) ≡ 0
-  elsewhere f k m = ap tick (ne_eqb (from + k) at (λ e. absurd (no e)))
-    where
-      no : from + k ≡ at → ⊥
-      no e = let h : from ≤ at = omega arith in let g = f h in omega arith
-
 module _ (links : List ℕ) (from i : ℕ) where
   begin_is : (k : ℕ) → kind_at links i ≡ 1 → begins links (from + k) i ≡ eqb (from + k) (first_at links i)
   unfolding begins
@@ -203,10 +138,6 @@ module _ (links work : List ℕ) (from p even : ℕ) (b : Balanced links (node_c
   pub uneven_no : get_or work (p - from) 0 ≡ even → uneven links p ≡ false
   unfolding uneven
   uneven_no n = rw (eq-eqb (count (begins links p) (node_count links)) (count (ends links p) (node_count links) + tick (eqb p 0)) (omega (arith, told)))
-
--- ---- lengths, and the start of the count
-pub both_long : (work after last : List ℕ) (x y v w : ℕ) → after ≡ set work x v → last ≡ set after y w → length last ≡ length work
-both_long work after last x y v w e f = ap length f ∙ length-set after y w ∙ ap length e ∙ length-set work x v
 
 pub balance_start : (links work : List ℕ) (from m : ℕ) → work ≡ replicate m (node_count links) → Balanced links 0 work from
 unfolding count
@@ -272,28 +203,3 @@ ticked w t e h = tick_yes t (λ z. h (e ∙ z))
 
 pub unticked : (w : ℕ) (t : Bool) → w ≡ tick t → w ≡ 0 → t ≡ false
 unticked w t e h = tick_no t (sym e ∙ h)
-
--- ---- the triangles of a leaf
--- what a test of the corners that were read says of the triangle
-pub of_corners : (b : Aabb) (t : Triangle) (r : Corners) → r ≡ corners_of t → holds_all b t ≡ holds b r.v0 && (holds b r.v1 && holds b r.v2)
-unfolding holds_all corners_of
-of_corners b t r e = rw e
-
-module _ (mesh : List Float) (index : List ℕ) (b : Aabb) where
-  pub each_on : (k p : ℕ) → 0 < k → holds_all b (triangle_at mesh (get_or index p 0)) ≡ true → holds_each mesh index b k p ≡ holds_each mesh index b (k - 1) (p + 1)
-  unfolding holds_each
-  each_on zero p h e = absurd (omega arith)
-  each_on (suc k) p h e = rw e (ap (λ (z : ℕ). holds_each mesh index b z (suc p)) (less k) ∙ ap (λ (z : ℕ). holds_each mesh index b (suc k - 1) z) (sym (add-one p)))
-    where
-      less : (k : ℕ) → k ≡ suc k - 1
-      less k = omega arith
-
-  pub each_no : (k p : ℕ) → 0 < k → holds_all b (triangle_at mesh (get_or index p 0)) ≡ false → holds_each mesh index b k p ≡ false
-  unfolding holds_each
-  each_no zero p h e = absurd (omega arith)
-  each_no (suc k) p h e = rw e
-
-  pub each_end : (k p : ℕ) → k ≤ 0 → holds_each mesh index b k p ≡ true
-  unfolding holds_each
-  each_end zero p h = refl
-  each_end (suc k) p h = absurd (omega arith)

@@ -1,4 +1,3 @@
-pub mod Lowest
 pub mod Count
 pub mod Family
 pub mod Ranges

@@ -10,11 +10,12 @@ use Rattle.float.proofs.Cases.{same?, low_or_high}
 use Rattle.tree.specs.Lent.{Lent}
 use Rattle.tree.specs.Node.{left_or_first, node_at, linked}
 use Rattle.tree.specs.Node.{node_of}
-use Rattle.accept.specs.Lowest.{tick, count, lowest}
+use Rattle.lent.specs.Lowest.{lowest}
+use Rattle.accept.specs.Count.{tick, count}
 use Rattle.accept.specs.Conditions.{nodes, covered, breaks_4}
 use Rattle.accept.specs.inner.Room.{begins, ends, uneven}
 use Rattle.accept.proofs.Count.{count_pairs}
-use Rattle.accept.proofs.Lowest.{same}
+use Rattle.lent.proofs.Lowest.{same}
 
 -- ---- a range from f up to g: a place in it, its begin and its end
 below : (a g : ℕ) → tick (ltb (suc a) g) + tick (eqb (suc a) g) ≡ tick (ltb a g)

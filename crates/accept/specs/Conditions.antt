@@ -9,7 +9,7 @@ use Rattle.triangle.specs.Mesh.{triangle_at}
 use Rattle.tree.specs.declared.Node.{Node}
 use Rattle.tree.specs.Lent.{Lent, lent, node_count}
 use Rattle.tree.specs.Node.{left_or_first, node_of, sound, left_of, right_of}
-use Rattle.accept.specs.Lowest.{any, count}
+use Rattle.accept.specs.Count.{any, count}
 
 -- the lists that are judged: no condition speaks of materials
 abbrev pub foreign : List Float → List ℕ → List Float → List ℕ → Lent

@@ -1,4 +1,4 @@
-pub mod Lowest
+pub mod Count
 pub mod Conditions
 pub mod Accept
 pub mod inner

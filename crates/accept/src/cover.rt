@@ -5,11 +5,9 @@
 ghost use Rattle.std.specs.Prelude.{◌≡◌, ℕ, ◌+◌, ◌-◌, ◌*◌, ◌<◌, ◌≤◌, eqb, length, get_or};
 ghost use Rattle.lent.specs.Limits.{most_nodes};
 ghost use Rattle.tree.specs.Lent.{node_count};
-ghost use Rattle.accept.specs.Lowest.{tick, lowest};
+ghost use Rattle.lent.specs.Lowest.{lowest};
+ghost use Rattle.accept.specs.Count.{tick};
 ghost use Rattle.accept.specs.inner.Room.{uneven, Balanced};
-
-use crate::breach;
-use crate::breach::Breach;
 
 // Counts one more that begins at a place, if the room has it.
 fn more(work: &mut [u32], from: usize, at: usize)
@@ -17,11 +15,8 @@ fn more(work: &mut [u32], from: usize, at: usize)
     ensures work_len_unchanged { length work.new ≡ length work.old }
     ensures by_index { (k : ℕ) → k < length work.old → get_or work.new k 0 ≡ get_or work.old k 0 + tick (eqb (from + k) at) }
 {
-    if from <= at {
-        let k = at - from;
-        if k < work.len() {
-            work[k] += 1;
-        }
+    if from <= at && at - from < work.len() {
+        work[at - from] += 1;
     }
 }
 
@@ -31,11 +26,8 @@ fn fewer(work: &mut [u32], from: usize, at: usize)
     ensures work_len_unchanged { length work.new ≡ length work.old }
     ensures by_index { (k : ℕ) → k < length work.old → get_or work.new k 0 + tick (eqb (from + k) at) ≡ get_or work.old k 0 }
 {
-    if from <= at {
-        let k = at - from;
-        if k < work.len() {
-            work[k] -= 1;
-        }
+    if from <= at && at - from < work.len() {
+        work[at - from] -= 1;
     }
 }
 
@@ -45,13 +37,11 @@ fn weigh(links: &[u32], work: &mut [u32], from: usize, i: usize)
     ensures work_len_unchanged { length work.new ≡ length work.old }
     ensures balanced { Balanced links.now (i + 1) work.new from }
 {
-    if links[i * 3 + 2] != 1 {
-        return;
+    if links[i * 3 + 2] == 1 {
+        let first = links[i * 3] as usize;
+        more(work, from, first);
+        fewer(work, from, first + links[i * 3 + 1] as usize);
     }
-    let first = links[i * 3] as usize;
-    let end = first + links[i * 3 + 1] as usize;
-    more(work, from, first);
-    fewer(work, from, end);
 }
 
 // For each place from the given one on that the room has: the number of nodes, with the leaves that begin there, less those that end before it.
@@ -61,28 +51,19 @@ fn balance(links: &[u32], work: &mut [u32], from: usize)
     ensures balanced { Balanced links.now (node_count links.now) work.new from }
 {
     let nodes = links.len() / 3;
-    breach::fill(work, nodes as u32);
-    let mut i: usize = 0;
-    while i < nodes {
+    work.fill(nodes as u32);
+    for i in 0..nodes {
         weigh(links, work, from, i);
-        i += 1;
     }
 }
 
 // The lowest uneven place of those from the given one on, by what the room has counted.
-fn first_uneven(links: &[u32], work: &[u32], from: usize, end: usize) -> Breach
+fn first_uneven(links: &[u32], work: &[u32], from: usize, end: usize) -> Option<usize>
     requires { (node_count links.now ≤ most_nodes) × (from ≤ end) × (end ≤ from + length work.now) × Balanced links.now (node_count links.now) work.now from }
     ensures { result ≡ lowest (uneven links.now) from (end - from) }
 {
     let nodes = (links.len() / 3) as u32;
-    let mut p = from;
-    while p < end {
-        if work[p - from] != even(nodes, p) {
-            return Breach::At(p);
-        }
-        p += 1;
-    }
-    Breach::Nowhere
+    (from..end).find(|p| work[*p - from] != even(nodes, *p))
 }
 
 // What the room has where as many begin as end, at place 0 one more.
@@ -90,36 +71,22 @@ fn even(nodes: u32, p: usize) -> u32
     requires { nodes ≤ most_nodes }
     ensures { result ≡ nodes + tick (eqb p 0) }
 {
-    if p == 0 {
-        return nodes + 1;
-    }
-    nodes
-}
-
-// The lesser of what is left and what the room has.
-fn part(left: usize, room: usize) -> usize
-    ensures { (result ≤ left) × (result ≤ room) × (0 < left → 0 < room → 0 < result) }
-{
-    if room < left {
-        return room;
-    }
-    left
+    if p == 0 { nodes + 1 } else { nodes }
 }
 
 // The lowest place of a list of the given length that breaks (iv).
-pub fn first_uncovered(places: usize, links: &[u32], work: &mut [u32]) -> Breach
+pub fn first_uncovered(places: usize, links: &[u32], work: &mut [u32]) -> Option<usize>
     requires { (node_count links.now ≤ most_nodes) × (0 < length work.old) }
     ensures work_len_unchanged { length work.new ≡ length work.old }
     ensures value { result ≡ lowest (uneven links.now) 0 places }
 {
-    let mut from: usize = 0;
-    while from < places {
+    let room = work.len();
+    for from in (0..places).step_by(room) {
         balance(links, work, from);
-        let end = from + part(places - from, work.len());
-        if let Breach::At(p) = first_uneven(links, work, from, end) {
-            return Breach::At(p);
+        let end = from + room.min(places - from);
+        if let Some(p) = first_uneven(links, work, from, end) {
+            return Some(p);
         }
-        from = end;
     }
-    Breach::Nowhere
+    None
 }

@@ -1,80 +1,63 @@
 // Condition (i): no node has any fault that gives 9, and with triangles present every box is finite and every leaf holds at least one.
-ghost use Rattle.std.specs.Prelude.{◌≡◌, List, Float, ◌<◌};
+ghost use Rattle.std.specs.Prelude.{◌≡◌, ℕ, List, Float};
+ghost use Rattle.lent.specs.Lowest.{lowest};
 ghost use Rattle.tree.specs.Lent.{node_count};
-ghost use Rattle.tree.specs.Node.{node_at};
-ghost use Rattle.accept.specs.Lowest.{lowest};
-ghost use Rattle.accept.specs.Conditions.{foreign, faulty, single, breaks_1};
+ghost use Rattle.tree.specs.Node.{node_of};
+ghost use Rattle.accept.specs.Conditions.{foreign, bad, faulty, single, breaks_1};
 
-use crate::breach::Breach;
-use aabb::Aabb;
+use tree::{Lists, Node};
+
+// Whether a walk that meets the node is refused with 9: it is unsound, a leaf's range ends beyond the index list, or a child is no node.
+#[tactic(auto, unfolding(crate::specs::Conditions::bad, tree::specs::Node::left_of, tree::specs::Node::right_of))]
+fn bad(tree: &Lists, node: Node) -> bool
+    ensures { (mesh : List Float) (i : ℕ) → result ≡ bad (foreign mesh tree.now.index tree.now.boxes tree.now.links) i node }
+{
+    let first = node.left_or_first as usize;
+    let nodes = tree.links.len() / 3;
+    if !node.sound() {
+        return true;
+    }
+    if node.kind == 1 {
+        tree.index.len() < first + node.count as usize
+    } else {
+        nodes <= first || nodes <= first + 1
+    }
+}
 
 // Whether node i of a tree over triangles has a fault.
-fn faulty(index: &[u32], boxes: &[f64], links: &[u32], i: usize) -> bool
-    requires { i < node_count links.now }
-    ensures { (mesh : List Float) → result ≡ faulty (foreign mesh index.now boxes.now links.now) i (node_at boxes.now links.now i) }
+#[tactic(auto, unfolding(crate::specs::Conditions::faulty))]
+fn faulty(tree: &Lists, i: usize) -> bool
+    ensures { (mesh : List Float) → result ≡ faulty (foreign mesh tree.now.index tree.now.boxes tree.now.links) i (node_of tree.now i) }
 {
-    let first = links[i * 3] as usize;
-    let count = links[i * 3 + 1] as usize;
-    let kind = links[i * 3 + 2];
-    if !Aabb::read(boxes, i).bounded() {
-        return true;
-    }
-    if kind == 1 {
-        if count == 0 {
-            return true;
-        }
-        return index.len() < first + count;
-    }
-    if kind != 0 {
-        return true;
-    }
-    if count != 0 {
-        return true;
-    }
-    links.len() / 3 <= first + 1
+    let node = Node::read(tree.boxes, tree.links, i);
+    bad(tree, node) || !node.bounds.bounded() || node.kind == 1 && node.count == 0
 }
 
 // Whether the lists are those of an empty mesh: one leaf with first 0, count 0 and the empty box, and an empty list.
-fn single(index: &[u32], boxes: &[f64], links: &[u32]) -> bool
-    requires { 0 < node_count links.now }
-    ensures { (mesh : List Float) → result ≡ single (foreign mesh index.now boxes.now links.now) (node_at boxes.now links.now 0) }
+#[tactic(auto, unfolding(crate::specs::Conditions::single))]
+fn single(tree: &Lists) -> bool
+    ensures { (mesh : List Float) → result ≡ single (foreign mesh tree.now.index tree.now.boxes tree.now.links) (node_of tree.now 0) }
 {
-    if links.len() / 3 != 1 {
-        return false;
-    }
-    if index.len() != 0 {
-        return false;
-    }
-    if !Aabb::read(boxes, 0).is_empty() {
-        return false;
-    }
-    if links[0] != 0 {
-        return false;
-    }
-    if links[1] != 0 {
-        return false;
-    }
-    links[2] == 1
+    let node = Node::read(tree.boxes, tree.links, 0);
+    tree.links.len() / 3 == 1
+        && tree.index.len() == 0
+        && node.bounds.is_empty()
+        && node.left_or_first == 0
+        && node.count == 0
+        && node.kind == 1
 }
 
 // The lowest node that breaks (i).
-pub fn first_faulty(triangles: &[f64], index: &[u32], boxes: &[f64], links: &[u32]) -> Breach
-    requires { 0 < node_count links.now }
-    ensures { result ≡ lowest (breaks_1 (foreign triangles.now index.now boxes.now links.now)) 0 (node_count links.now) }
+pub fn first_faulty(triangles: &[f64], tree: &Lists) -> Option<usize>
+    ensures { result ≡ lowest (breaks_1 (foreign triangles.now tree.now.index tree.now.boxes tree.now.links)) 0 (node_count tree.now.links) }
 {
-    if triangles.len() / 12 == 0 {
-        if single(index, boxes, links) {
-            return Breach::Nowhere;
+    let empty = triangles.len() / 12 == 0;
+    let nodes = tree.links.len() / 3;
+    (0..nodes).find(|i| {
+        if empty {
+            !single(tree)
+        } else {
+            faulty(tree, *i)
         }
-        return Breach::At(0);
-    }
-    let nodes = links.len() / 3;
-    let mut i: usize = 0;
-    while i < nodes {
-        if faulty(index, boxes, links, i) {
-            return Breach::At(i);
-        }
-        i += 1;
-    }
-    Breach::Nowhere
+    })
 }

@@ -124,3 +124,6 @@ chosen_leaf leaf z t = rw t
 -- a split is of more than four
 pub splits_four : (m : List Float) (ids : List ℕ) (b q : Aabb) (a : ℕ) (p : Float) → best_split m ids b q ≡ Split a p → (length ids ≤ 4 → ⊥)
 splits_four m ids b q a p e h = let r = choose_few m ids b q h in let w : ◌≡◌ {A = ℕ} 0 1 = cc in omega arith
+
+-- the cases of a boundary
+pub ruleset boundary = (better_1, better_2, better_3, better_4, cost_is)

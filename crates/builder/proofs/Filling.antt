@@ -5,13 +5,13 @@ use Prim.Native.Nat.{ℕ, ◌+◌, ◌≤◌, ◌<◌}
 use native.Mathlib.Omega.{arith}
 use mathlib.Core.Logic.{⊎_elim}
 use mathlib.Core.List.{List}
-use lib.ListN.{length, get_or, set, drop, replicate, length-set, length-replicate, get_or-replicate}
+use lib.ListN.{length, get_or, drop, replicate, length-set, length-replicate, get_or-replicate}
 use lib.Seq.{get_or-set_same, get_or-set_other}
 use lib.Ieee.{Float, sub, mul, binary64}
 use Rattle.float.proofs.Cases.{same?}
 use Rattle.aabb.specs.declared.bounds.Aabb.{Aabb}
-use Rattle.aabb.specs.Bounds.{Clear, union}
-use Rattle.aabb.proofs.Running.{clear_as, empty_clear, union_clear}
+use Rattle.aabb.specs.Bounds.{Clear}
+use Rattle.aabb.proofs.Running.{empty_clear, union_clear}
 use Rattle.triangle.specs.Mesh.{bounds_at, centroid_at}
 use Rattle.builder.specs.declared.bins.Bin.{Bin}
 use Rattle.builder.specs.Bins.{bin_of, bin_for, blank, filled, no_bin, with_box, with_one}

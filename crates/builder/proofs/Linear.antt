@@ -8,7 +8,7 @@ use lib.Ieee.{Float, lt, ne}
 use borrow.Author.Tests.{ltb-true, ltb-false, le-ltb}
 use Rattle.float.specs.Number.{nought, real}
 use Rattle.float.specs.Total.{total_less}
-use Rattle.float.proofs.Total.{Weak, weak_lex, weak_total, lex_false, total_gt, total_level, total_lt}
+use Rattle.float.proofs.Total.{Weak, weak_lex, weak_total, level_lt, level_nonzero, level_real, lex_false, lex_next, lex_no, lex_yes, total_gt, total_level, total_lt}
 use Rattle.builder.specs.Fallback.{under_at, sorts_before}
 
 weak_at : (at : ℕ → Float) → Weak (under_at at)
@@ -56,3 +56,6 @@ module _ (at : ℕ → Float) (a b : ℕ) (x y : Float) (p : x ≡ at a) (q : y 
   pub under_level : lt x y ≡ false → (real x ≡ true) × (real y ≡ true) → ne x nought ≡ true → under_at at a b ≡ false
   unfolding under_at
   under_level t r z = rw (← p, ← q, total_level x y t r z)
+
+-- the order, test by test
+pub ruleset ahead = (level_lt, level_nonzero, level_real, lex_next, lex_no, lex_yes, under_at_lem, under_gt, under_level, under_lt)

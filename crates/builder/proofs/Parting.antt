@@ -88,3 +88,6 @@ lower_is m a p i k r t e f g = cc
 pub moves_start : (m : List Float) (a : ℕ) (p : Float) (xs : List ℕ) → moves (keeps_left m a p) (length xs - 0) 0 xs ≡ parted m a p xs
 unfolding parted
 moves_start m a p xs = ap (λ (n : ℕ). moves (keeps_left m a p) n 0 xs) (sub-zero (length xs))
+
+-- the turns of the loop
+pub ruleset turns = (length_swap, swapped_by, lower_is, moves_down, moves_end, moves_start, moves_up)

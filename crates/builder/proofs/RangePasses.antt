@@ -1,4 +1,4 @@
--- Laws of the pass over a range that grows its two boxes: its start, its turn and its end; and of a triangle known by its vertices. Assumes nothing.
+-- Laws of the pass over a range that grows its two boxes: its start, its turn and its end; and of a triangle by its corners. Assumes nothing.
 use mathlib.Core.Path.{◌≡◌, refl, sym, ◌∙◌, ap}
 use Prim.Native.Nat.{ℕ, zero, suc, ◌+◌, ◌*◌, ◌≤◌, ◌<◌}
 use native.Mathlib.Nat.{add-zero}
@@ -13,8 +13,8 @@ use Rattle.aabb.specs.declared.bounds.Aabb.{Aabb}
 use Rattle.float.specs.Number.{three}
 use Rattle.aabb.specs.Vector.{along, divided, number_at, plus, vector_at}
 use Rattle.aabb.specs.Bounds.{empty_box, grown, of_three, union}
-use Rattle.triangle.specs.declared.Triangle.{Triangle}
-use Rattle.triangle.specs.Mesh.{triangle_at, bounds_of, centroid_of, bounds_at, centroid_at}
+use Rattle.triangle.specs.declared.Corners.{Corners}
+use Rattle.triangle.specs.Mesh.{triangle_at, corners_of, bounds_of, centroid_of, bounds_at, centroid_at}
 use Rattle.builder.specs.Range.{box_from, node_box, centroids_from, centroid_box}
 
 module _ (m : List Float) (xs : List ℕ) where
@@ -49,17 +49,14 @@ module _ (m : List Float) (xs : List ℕ) where
   unfolding centroids_from
   centroids_end b i h = ap (λ (z : List ℕ). centroids_from m b z) (drop_of_length-le xs h)
 
--- ---- a triangle by its vertices
-pub corners_same : (m : List Float) (i k : ℕ) (a b c : Vec3) → k ≡ i → a ≡ (triangle_at m k).v0 → b ≡ (triangle_at m k).v1 → c ≡ (triangle_at m k).v2 → (a ≡ (triangle_at m i).v0) × (b ≡ (triangle_at m i).v1) × (c ≡ (triangle_at m i).v2)
-corners_same m i k a b c e p q r = (p ∙ ap (λ (n : ℕ). (triangle_at m n).v0) e, q ∙ ap (λ (n : ℕ). (triangle_at m n).v1) e, r ∙ ap (λ (n : ℕ). (triangle_at m n).v2) e)
+-- ---- a triangle by its corners
+pub centroid_by : (m : List Float) (i : ℕ) (v : Corners) (c : Vec3) → v ≡ corners_of (triangle_at m i) → c ≡ divided (plus (plus v.v0 v.v1) v.v2) three → c ≡ centroid_of (triangle_at m i)
+unfolding centroid_of corners_of
+centroid_by m i v c p e = rw p at e
 
-pub centroid_by : (t : Triangle) (p q r c : Vec3) → p ≡ t.v0 → q ≡ t.v1 → r ≡ t.v2 → c ≡ divided (plus (plus p q) r) three → c ≡ centroid_of t
-unfolding centroid_of
-centroid_by t p q r c ep eq er e = rw (ep, eq, er) at e
-
-pub bounds_by : (m : List Float) (i : ℕ) (p q r : Vec3) (b : Aabb) → p ≡ (triangle_at m i).v0 → q ≡ (triangle_at m i).v1 → r ≡ (triangle_at m i).v2 → b ≡ of_three p q r → b ≡ bounds_at m i
-unfolding bounds_at bounds_of
-bounds_by m i p q r b ep eq er e = rw (ep, eq, er) at e
+pub bounds_by : (m : List Float) (i : ℕ) (v : Corners) (b : Aabb) → v ≡ corners_of (triangle_at m i) → b ≡ of_three v.v0 v.v1 v.v2 → b ≡ bounds_at m i
+unfolding bounds_at bounds_of corners_of
+bounds_by m i v b p e = rw p at e
 
 -- ---- a centroid on an axis, by three numbers of the mesh
 number_on : (m : List Float) (axis at : ℕ) → axis < 3 → number_at m (at + axis) ≡ along axis (vector_at m at)

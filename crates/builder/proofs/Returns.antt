@@ -14,8 +14,8 @@ use Rattle.triangle.specs.Mesh.{first_refused, unadmitted}
 use Rattle.builder.specs.Reply.{Reply, served_reply, refused_reply}
 use Rattle.std.specs.Prelude.{Option as Maybe, Some, None}
 use Rattle.lent.specs.Permutation.{up_to}
-use Rattle.lent.specs.Ladder.{none as clear, triangle_count, mesh_checks, first_failed}
-use Rattle.lent.proofs.Ladder.{Ends, ends, goes, passed_before, not_below}
+use Rattle.lent.specs.Ladder.{triangle_count}
+use Rattle.lent.proofs.Ladder.{Ends, ends, goes, agree, not_below}
 use Rattle.builder.specs.Build.{Outcome, built, finished, outcome, room}
 use Rattle.tree.proofs.Counts.{odd_size}
 use Rattle.builder.specs.Layout.{Divided, boxes_of, links_of}
@@ -75,3 +75,7 @@ module _ (xs c : List ℕ) (n : ℕ) (h : n ≤ length xs) (e : length c ≡ len
       omega arith
 
 -- ---- where every check before that of refusal 5 passed
+pub past_room : (m : List Float) (xs : List ℕ) (bs : List Float) (ls : List ℕ) (k : ℕ) (x : Outcome) → length m % 12 ≡ 0 → triangle_count m ≤ most_triangles → triangle_count m ≤ length xs → k ≡ room (triangle_count m) → k ≤ length bs / 6 → k ≤ length ls / 3
+    → Ends (unadmitted (first_refused m 0 (triangle_count m)) ∷ []) (λ number at. outcome (refused_reply number at) xs bs ls) (finished (triangle_count m) (grow m deepest 0 (up_to (triangle_count m))) xs bs ls) x → x ≡ built m xs bs ls
+unfolding built
+past_room m xs bs ls k x whole few listed e boxed linked rest = rw (← e) (ends (goes (agree whole) (goes (not_below few) (goes (not_below listed) (goes (not_below boxed) (goes (not_below linked) rest))))))

@@ -3,8 +3,8 @@ use mathlib.Core.Path.{◌≡◌, refl, sym, ◌∙◌, ap}
 use Prim.Native.Nat.{ℕ, zero, suc, ◌+◌, ◌*◌, ◌-◌, ◌≤◌, ◌<◌}
 use native.Mathlib.Omega.{arith}
 use native.Mathlib.Numerals.{add-one}
-use mathlib.Core.List.{List, [], ◌∷◌, ◌++◌}
-use lib.ListN.{length, set, take, replicate, replicate-append-replicate}
+use mathlib.Core.List.{List}
+use lib.ListN.{length, set, take}
 use lib.Seq.{take_all, take-suc-set}
 use Rattle.lent.specs.Permutation.{up_to}
 use Rattle.builder.specs.Build.{room}
@@ -36,6 +36,5 @@ all_written f xs i n h l k e = sym (take_all i xs l) ∙ e ∙ ap f (same i n (l
     same : (i n k : ℕ) → i ≤ n → k ≤ i → k ≡ n → i ≡ n
     same i n k h l e = omega arith
 
-pub rep_more : {A : Type 0} (xs : List A) (v : A) (i : ℕ) → i < length xs → take i xs ≡ replicate i v → take (i + 1) (set xs i v) ≡ replicate (i + 1) v
-rep_more xs v i h e =
-    ap (λ (n : ℕ). take n (set xs i v)) (add-one i) ∙ take-suc-set xs i v h ∙ ap (λ (z : List _). z ++ (v ∷ [])) e ∙ replicate-append-replicate i 1 v
+-- what the loop cites
+pub ruleset counting = (up_more, all_written)

@@ -24,6 +24,7 @@ pub struct Axes {
 }
 
 impl Bin {
+    #[tactic(auto, using(aabb::proofs::Running::clear_as, aabb::proofs::Running::empty_clear), unfolding(crate::specs::Bins::no_bin))]
     pub fn none() -> Bin
         ensures { (result ≡ no_bin) × Clear result.bounds }
     {
@@ -43,6 +44,7 @@ impl Bin {
     }
 
     // One triangle more, whose box is given.
+    #[tactic(auto, using(aabb::proofs::Running::union_by), unfolding(crate::specs::Bins::with_box))]
     pub fn with(self, b: Aabb) -> Bin
         requires { (self.count ≤ most_triangles) × Clear self.bounds }
         ensures { result ≡ with_box self b }
@@ -63,6 +65,7 @@ pub struct Row {
 }
 
 // Of twice `half` bins in a row that have the bin of x, the half that has it. `width` is `half` as a float.
+#[tactic(auto, using(crate::proofs::Halves::bin_from, crate::proofs::Halves::bin_under, crate::proofs::Halves::boundary))]
 fn upper(row: Row, half: usize, width: f64, x: f64) -> Row
     requires { (row.low ≡ whole row.first) × (width ≡ whole half) × (0 < half) × (row.first + half ≤ 15) × (row.first ≤ bin_of 15 x) × (bin_of 15 x < row.first + half + half) }
     ensures { (result.low ≡ whole result.first) × (result.first ≤ row.first + half) × (result.first ≤ bin_of 15 x) × (bin_of 15 x < result.first + half) }

@@ -35,6 +35,7 @@ pub struct Child {
 }
 
 // Whether triangle a comes before triangle b. Equal numbers but zeros, most of those that are put in order, and numbers that differ are told by comparisons; `total_cmp` for the rest.
+#[tactic(auto, using(crate::proofs::Linear::ahead), unfolding(crate::specs::Fallback::sorts_before))]
 pub fn is_ahead(a: Ranked, b: Ranked) -> bool
     ensures { (at : ℕ → Float) → a.centroid ≡ at a.number → b.centroid ≡ at b.number → result ≡ sorts_before at a.number b.number }
 {

@@ -4,7 +4,7 @@ ghost use Rattle.lent.specs.Limits.{most_triangles};
 ghost use Rattle.builder.specs.Range.{Numbered, node_box, centroid_box};
 ghost use Rattle.aabb.specs.Vector.{vector_at};
 ghost use Rattle.aabb.specs.Bounds.{of_three};
-ghost use Rattle.triangle.specs.Mesh.{triangle_at, centroid_at};
+ghost use Rattle.triangle.specs.Mesh.{triangle_at, corners_of, centroid_at};
 
 use aabb::{Aabb, Vec3};
 use triangle::{Corners, Triangle};
@@ -17,6 +17,7 @@ pub struct Hull {
 }
 
 // Three numbers that are there.
+#[tactic(auto, unfolding(aabb::specs::Vector::vector_at))]
 fn three(triangles: &[f64], at: usize) -> Vec3
     requires { at + 3 ≤ length triangles.now }
     ensures { result ≡ vector_at triangles.now at }
@@ -29,9 +30,10 @@ fn three(triangles: &[f64], at: usize) -> Vec3
 }
 
 // The vertices of a triangle that is there: with no case beyond the mesh's end, which `Corners::read` has, nothing is called in a pass over a range.
+#[tactic(auto, unfolding(triangle::specs::Mesh::triangle_at, triangle::specs::Mesh::corners_of))]
 pub fn corners(triangles: &[f64], i: u32) -> Corners
     requires { i < length triangles.now / 12 }
-    ensures { (result.v0 ≡ (triangle_at triangles.now i).v0) × (result.v1 ≡ (triangle_at triangles.now i).v1) × (result.v2 ≡ (triangle_at triangles.now i).v2) }
+    ensures { result ≡ corners_of (triangle_at triangles.now i) }
 {
     let at = i as usize * 12;
     let v0 = three(triangles, at);
@@ -41,6 +43,7 @@ pub fn corners(triangles: &[f64], i: u32) -> Corners
 }
 
 // The box of the vertices.
+#[tactic(auto, using(aabb::proofs::Running::three_by))]
 pub fn box_of(t: Corners) -> Aabb
     ensures { result ≡ of_three t.v0 t.v1 t.v2 }
 {
@@ -64,6 +67,7 @@ pub fn around(triangles: &[f64], index: &[u32]) -> Hull
 }
 
 // The centroid of a triangle on an axis.
+#[tactic(auto, using(crate::proofs::RangePasses::centroid_there), unfolding(triangle::specs::Mesh::centroid_at))]
 pub fn centroid_on(triangles: &[f64], i: u32, axis: usize) -> f64
     ensures { result ≡ centroid_at triangles.now axis i }
 {

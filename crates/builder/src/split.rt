@@ -30,12 +30,22 @@ pub struct Best {
 }
 
 // (area·n)·1.5
+#[tactic(auto, unfolding(crate::specs::Choice::weight))]
 pub fn weight(b: Bin) -> f64
     ensures { result ≡ weight b }
 {
     let n = b.count as f64;
     let area = b.bounds.surface_area();
     area * n * Aabb::SAH_INTERSECTION_COST
+}
+
+// An axis on trial: where its bins start, how wide each is, and the area that a cost is measured by.
+#[derive(Clone, Copy)]
+pub struct Trial {
+    pub axis: usize,
+    pub min: f64,
+    pub width: f64,
+    pub parent: f64,
 }
 
 // What is asked of the bins to the right of a boundary: how many triangles they have, and their weight.
@@ -45,44 +55,29 @@ pub struct Side {
     pub weight: f64,
 }
 
-// The boundary with `i` bins to its left, each `width` wide, against the best so far.
-pub fn better(
-    best: Best,
-    l: Bin,
-    right: Side,
-    i: u8,
-    axis: usize,
-    min: f64,
-    width: f64,
-    parent: f64,
-) -> Best
-    ensures { (r : Bin) → r.count ≡ right.count → weight r ≡ right.weight → result ≡ better_of best l r i axis min width parent }
+// The boundary with `i` bins to its left, against the best so far.
+#[tactic(auto, using(crate::proofs::Choosing::boundary))]
+pub fn better(best: Best, l: Bin, right: Side, i: u8, on: Trial) -> Best
+    ensures { (r : Bin) → r.count ≡ right.count → weight r ≡ right.weight → result ≡ better_of best l r i on.axis on.min on.width on.parent }
 {
     if l.count == 0 || right.count == 0 {
         return best;
     }
-    let cost = Aabb::SAH_TRAVERSAL_COST + (weight(l) + right.weight) / parent;
+    let cost = Aabb::SAH_TRAVERSAL_COST + (weight(l) + right.weight) / on.parent;
     if cost < best.cost {
         return Best {
             cost,
-            axis,
-            position: min + (i as f64) * width,
+            axis: on.axis,
+            position: on.min + (i as f64) * on.width,
         };
     }
     best
 }
 
 // The fifteen boundaries of an axis, from left to right; what is to the right of each is worked out before, from the right end.
-pub fn sweep(
-    bins: &[Bin; 16],
-    best: Best,
-    axis: usize,
-    min: f64,
-    width: f64,
-    parent: f64,
-) -> Best
+pub fn sweep(bins: &[Bin; 16], best: Best, on: Trial) -> Best
     requires { Held most_triangles bins.now }
-    ensures { result ≡ sweep_from axis min width parent best no_bin bins.now 0 }
+    ensures { result ≡ sweep_from on.axis on.min on.width on.parent best no_bin bins.now 0 }
 {
     let mut sides = [Side {
         count: 0,
@@ -101,28 +96,14 @@ pub fn sweep(
     for i in 0..15u8 {
         left = left.joined(bins[i as usize]);
         let at = i + 1;
-        most = better(
-            most,
-            left,
-            sides[at as usize],
-            at,
-            axis,
-            min,
-            width,
-            parent,
-        );
+        most = better(most, left, sides[at as usize], at, on);
     }
     most
 }
 
 // An axis whose bins are filled.
-pub fn try_axis(
-    bins: &[Bin; 16],
-    axis: usize,
-    centroids: Aabb,
-    parent: f64,
-    best: Best,
-) -> Best
+#[tactic(auto, using(crate::proofs::Choosing::try_go, crate::proofs::Choosing::try_skip))]
+pub fn try_axis(bins: &[Bin; 16], axis: usize, centroids: Aabb, parent: f64, best: Best) -> Best
     requires { Held most_triangles bins.now }
     ensures { (mesh : List Float) (range : List ℕ) → bins.now ≡ filled mesh axis (along axis centroids.min) (div binary64 sixteen (sub binary64 (along axis centroids.max) (along axis centroids.min))) (replicate 16 no_bin) range → result ≡ try_axis mesh range centroids axis parent best }
 {
@@ -133,10 +114,17 @@ pub fn try_axis(
         return best;
     }
     let width = 1.0 / scale(span);
-    sweep(bins, best, axis, min, width, parent)
+    let on = Trial {
+        axis,
+        min,
+        width,
+        parent,
+    };
+    sweep(bins, best, on)
 }
 
 // 16/span
+#[tactic(auto, using(crate::proofs::Choosing::scale_is))]
 fn scale(span: f64) -> f64
     ensures { result ≡ div binary64 sixteen span }
 {
@@ -144,6 +132,7 @@ fn scale(span: f64) -> f64
 }
 
 // 16/span of each axis.
+#[tactic(auto, using(crate::proofs::Choosing::scale_on))]
 fn scales(centroids: Aabb) -> Vec3
     ensures { (a : ℕ) → a < 3 → along a result ≡ div binary64 sixteen (sub binary64 (along a centroids.max) (along a centroids.min)) }
 {

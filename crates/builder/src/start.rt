@@ -5,6 +5,7 @@ ghost use Rattle.lent.specs.Permutation.{up_to};
 ghost use Rattle.builder.specs.Build.{room};
 
 // R, the node room that n triangles ask: 2n-1, or 1 for none.
+#[tactic(auto, using(crate::proofs::StartLoops::room_none, crate::proofs::StartLoops::room_some))]
 pub fn room(n: u32) -> usize
     ensures { result ≡ room n }
 {
@@ -12,6 +13,7 @@ pub fn room(n: u32) -> usize
 }
 
 // 0, 1, .., n-1
+#[tactic(auto, using(crate::proofs::StartLoops::counting), unfolding(lent::specs::Permutation::up_to))]
 pub fn count_up(index: &mut [u32])
     requires { length index.old ≤ most_triangles }
     ensures { index.new ≡ up_to (length index.old) }

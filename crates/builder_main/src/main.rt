@@ -25,7 +25,11 @@ fn put(mesh: &mut [f64], i: usize, numbers: &[f64; 12]) {
 
 // Triangle i: (s,0,0), (m,0,0), (e,h,0), normal (0,0,1).
 fn flat(mesh: &mut [f64], i: usize, s: f64, m: f64, e: f64, h: f64) {
-    put(mesh, i, &[s, 0.0, 0.0, m, 0.0, 0.0, e, h, 0.0, 0.0, 0.0, 1.0]);
+    put(
+        mesh,
+        i,
+        &[s, 0.0, 0.0, m, 0.0, 0.0, e, h, 0.0, 0.0, 0.0, 1.0],
+    );
 }
 
 // n triangles (s,0,0), (s+w,0,0), (s,w,0), each a step after the last.
@@ -48,7 +52,11 @@ fn chain(mesh: &mut [f64], n: usize) {
 
 // Triangle i, upright at x, from y up.
 fn upright(mesh: &mut [f64], i: usize, x: f64, y: f64) {
-    put(mesh, i, &[x, y, 0.0, x, y + 1.0, 0.0, x, y, 1.0, 1.0, 0.0, 0.0]);
+    put(
+        mesh,
+        i,
+        &[x, y, 0.0, x, y + 1.0, 0.0, x, y, 1.0, 1.0, 0.0, 0.0],
+    );
 }
 
 // Two heaps of three whose centroids lie three ulps apart near 2^40: the position rounds to the lesser.

@@ -1,87 +1,61 @@
 // Words (u32), longs (u64) and numbers (the eight bytes of an f64) from the file, little-endian, one after the other.
+use std::io;
 use std::io::Read;
 
-// What was read, or that the file ended before it.
+// Why the data could not be compared: the file ended, a list is longer than the room for it, or what stands there is of no known kind.
 #[derive(Clone, Copy)]
-pub enum Word {
-    Read(u32),
+pub enum Fault {
     Cut,
+    Large,
+    Unknown,
 }
 
-#[derive(Clone, Copy)]
-pub enum Long {
-    Read(u64),
-    Cut,
-}
-
-fn wide(x: u8) -> u32 {
-    x as u32
-}
-
-fn wider(x: u32) -> u64 {
-    x as u64
-}
-
-fn word_of(b: &[u8; 4]) -> u32 {
-    wide(b[0]) | (wide(b[1]) << 8) | (wide(b[2]) << 16) | (wide(b[3]) << 24)
-}
-
-// A byte, as a word.
-pub fn read_byte<R: Read>(file: &mut R) -> Word {
-    let mut b = [0u8; 4];
-    if file.read_exact(&mut b[0..1]).is_err() {
-        return Word::Cut;
+// Whatever keeps the file from being read on is told as its end.
+impl From<io::Error> for Fault {
+    fn from(_error: io::Error) -> Fault {
+        Fault::Cut
     }
-    Word::Read(word_of(&b))
 }
 
-pub fn read_word<R: Read>(file: &mut R) -> Word {
-    let mut b = [0u8; 4];
-    if file.read_exact(&mut b).is_err() {
-        return Word::Cut;
+// What the file has one after the other.
+pub trait Stored: Copy {
+    fn read<R: Read>(file: &mut R) -> Result<Self, Fault>;
+}
+
+impl Stored for u8 {
+    fn read<R: Read>(file: &mut R) -> Result<u8, Fault> {
+        let mut bytes = [0];
+        file.read_exact(&mut bytes)?;
+        Ok(bytes[0])
     }
-    Word::Read(word_of(&b))
 }
 
-pub fn read_long<R: Read>(file: &mut R) -> Long {
-    let Word::Read(low) = read_word(file) else {
-        return Long::Cut;
-    };
-    let Word::Read(high) = read_word(file) else {
-        return Long::Cut;
-    };
-    Long::Read(wider(low) | (wider(high) << 32))
+impl Stored for u32 {
+    fn read<R: Read>(file: &mut R) -> Result<u32, Fault> {
+        let mut bytes = [0; 4];
+        file.read_exact(&mut bytes)?;
+        Ok(u32::from_le_bytes(bytes))
+    }
 }
 
-// Fills a list with words; whether they were all there.
-pub fn fill_words<R: Read>(file: &mut R, list: &mut [u32]) -> bool {
+impl Stored for u64 {
+    fn read<R: Read>(file: &mut R) -> Result<u64, Fault> {
+        let mut bytes = [0; 8];
+        file.read_exact(&mut bytes)?;
+        Ok(u64::from_le_bytes(bytes))
+    }
+}
+
+impl Stored for f64 {
+    fn read<R: Read>(file: &mut R) -> Result<f64, Fault> {
+        Ok(float::from_bits(u64::read(file)?))
+    }
+}
+
+// Fills a list with what the file has next.
+pub fn fill<T: Stored, R: Read>(file: &mut R, list: &mut [T]) -> Result<(), Fault> {
     for place in list.iter_mut() {
-        let Word::Read(x) = read_word(file) else {
-            return false;
-        };
-        *place = x;
+        *place = T::read(file)?;
     }
-    true
-}
-
-// Fills a list with longs; whether they were all there.
-pub fn fill_longs<R: Read>(file: &mut R, list: &mut [u64]) -> bool {
-    for place in list.iter_mut() {
-        let Long::Read(x) = read_long(file) else {
-            return false;
-        };
-        *place = x;
-    }
-    true
-}
-
-// Fills a list with numbers; whether they were all there.
-pub fn fill_numbers<R: Read>(file: &mut R, list: &mut [f64]) -> bool {
-    for place in list.iter_mut() {
-        let Long::Read(x) = read_long(file) else {
-            return false;
-        };
-        *place = float::from_bits(x);
-    }
-    true
+    Ok(())
 }

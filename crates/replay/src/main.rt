@@ -6,11 +6,10 @@
 mod input; // input.rt: words and numbers from the file
 mod compare; // compare.rt: what a call left, against what is stored
 mod score; // score.rt: how many were compared and how many differed
-mod room; // room.rt: what lent rooms hold before a call
+mod room; // room.rt: the lent rooms, and what they hold before a call
 mod cases; // cases.rt: the five kinds of cases
 
-use compare::Check;
-use input::Word;
+use input::{Fault, Stored};
 use score::Score;
 use std::fs;
 use std::io::Read;
@@ -20,7 +19,19 @@ fn main(rt: HostRuntime) {
         say(&rt, "replay: answers.bin cannot be opened");
         return;
     };
-    tell(&rt, replay(&mut file));
+    match replay(&mut file) {
+        Ok(score) => {
+            let compared = score.compared;
+            let differ = score.differ;
+            let _ = println!(rt; "{compared} compared, {differ} differ");
+        }
+        Err(Fault::Cut) => say(&rt, "replay: answers.bin ends early"),
+        Err(Fault::Large) => say(
+            &rt,
+            "replay: a list of answers.bin is longer than the room for it",
+        ),
+        Err(Fault::Unknown) => say(&rt, "replay: answers.bin is not of the form PIGEON03"),
+    }
 }
 
 // Writes a line. One that cannot be written is let go, and the program ends as if it were.
@@ -29,50 +40,20 @@ fn say(rt: &impl Print, line: &str) {
 }
 
 // The whole file: PIGEON03, how many cases, the cases, and nothing after them.
-fn replay<R: Read>(file: &mut R) -> Score {
-    let start = Score::new(0, 0, Check::Same);
-    let head = compare::same_words(file, &[0x4547_4950, 0x3330_4e4f]);
-    let Check::Same = head else {
-        return start.with(Check::Unknown);
+fn replay<R: Read>(file: &mut R) -> Result<Score, Fault> {
+    let Ok(true) = compare::same(file, &[0x4547_4950u32, 0x3330_4e4f]) else {
+        return Err(Fault::Unknown);
     };
-    let Word::Read(cases) = input::read_word(file) else {
-        return start.with(Check::Cut);
+    let cases = u32::read(file)?;
+    let mut score = Score {
+        compared: 0,
+        differ: 0,
     };
-    let score = replay_cases(file, cases, start);
-    if score.is_faulty() {
-        return score;
-    }
-    let Word::Cut = input::read_byte(file) else {
-        return score.with(Check::Unknown);
-    };
-    score
-}
-
-// So many cases, up to the first that cannot be read.
-fn replay_cases<R: Read>(file: &mut R, cases: u32, start: Score) -> Score {
-    let mut score = start;
     for _ in 0..cases {
-        score = cases::next(file, score);
-        if score.is_faulty() {
-            return score;
-        }
+        score = cases::next(file, score)?;
     }
-    score
-}
-
-fn tell(rt: &impl Print, score: Score) {
-    let last = score.last;
-    match last {
-        Check::Cut => say(rt, "replay: answers.bin ends early"),
-        Check::Large => say(
-            rt,
-            "replay: a list of answers.bin is longer than the room for it",
-        ),
-        Check::Unknown => say(rt, "replay: answers.bin is not of the form PIGEON03"),
-        Check::Same | Check::Differs => {
-            let compared = score.compared;
-            let differ = score.differ;
-            let _ = println!(rt; "{compared} compared, {differ} differ");
-        }
+    if u8::read(file).is_ok() {
+        return Err(Fault::Unknown);
     }
+    Ok(score)
 }

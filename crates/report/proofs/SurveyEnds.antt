@@ -1,4 +1,5 @@
 -- The report of the cases that a build and an input have, and the part of the room that the walk is handed. Assumes nothing.
+use Rattle.std.specs.Prelude.{Option, Some, None, Result, Ok, Err}
 use mathlib.Core.Path.{◌≡◌, refl, sym, ap, ◌∙◌}
 use mathlib.Core.Bool.{Bool, true, false}
 use mathlib.Core.List.{List, ◌∷◌, ◌++◌}
@@ -11,12 +12,12 @@ use lib.ListN.{length, take, drop, replicate, length-take}
 use lib.Seq.{length-take-le, length_front, take_at, take_all}
 use lib.Ieee.{Float}
 use Rattle.builder.specs.declared.Built.{Built}
-use Rattle.builder.specs.declared.Built.TheVariants.{Tree, Refused}
+use Rattle.lent.specs.declared.refusal.Refused.{Refused}
+use Rattle.lent.specs.Refusals.{number}
 use Rattle.builder.specs.Reply.{Reply, reply}
 use Rattle.builder.specs.Build.{outcome}
 use Rattle.tree.specs.Lent.{Lent, lent}
 use Rattle.report.specs.declared.input.Input.{Input}
-use Rattle.report.specs.declared.input.Input.TheVariants.{Good, Bad}
 use Rattle.report.specs.Little.{numbers}
 use Rattle.report.specs.Input.{measured}
 use Rattle.report.specs.Lines.{bad_input, build_refused_line, built_line}
@@ -62,20 +63,20 @@ mesh_is s xs c n h k e =
     take_at c (drop (n * 12 - 0) xs) (n * 12 - 0) (k ∙ w ∙ sym (sub-zero (n * 12))) ∙ e ∙ ap (λ (z : ℕ). numbers s 4 z) w
 
 -- ---- the build's cases
-module _ (s : List ℕ) (mesh : List Float) (n m : ℕ) (a : Built) (i : List ℕ) (b : List Float) (l : List ℕ) (p : outcome (reply a) i b l ≡ built_of mesh) where
-  pub refused_report : (k at : ℕ) → a ≡ Refused k at → build_refused_line k at ≡ reported s mesh n m
+module _ (s : List ℕ) (mesh : List Float) (n m : ℕ) (a : Result Built Refused) (i : List ℕ) (b : List Float) (l : List ℕ) (p : outcome (reply a) i b l ≡ built_of mesh) where
+  pub refused_report : (r : Refused) (k : ℕ) → a ≡ Err r → k ≡ number r.reason → build_refused_line k r.at ≡ reported s mesh n m
   unfolding reply reported report_of
-  refused_report k at q = rw (← p, q)
+  refused_report r k q e = rw (← p, q, e)
 
-  pub built_report : (nodes leaves : ℕ) (w : Lent) → a ≡ Tree nodes leaves → w ≡ handed mesh n nodes (outcome (reply a) i b l) → built_line nodes leaves ++ ray_lines s (8 + 96 * n) w m ≡ reported s mesh n m
+  pub built_report : (t : Built) (w : Lent) → a ≡ Ok t → w ≡ handed mesh n t.nodes (outcome (reply a) i b l) → built_line t.nodes t.leaves ++ ray_lines s (8 + 96 * n) w m ≡ reported s mesh n m
   unfolding reply reported report_of
-  built_report nodes leaves w q e = rw (e, ← p, q)
+  built_report t w q e = rw (e, ← p, q)
 
 -- ---- the input's cases
-pub bad_report : (s : List ℕ) (f : Input) → f ≡ measured s → f ≡ Bad → bad_input ≡ surveyed s
+pub bad_report : (s : List ℕ) (f : Option Input) → f ≡ measured s → f ≡ None → bad_input ≡ surveyed s
 unfolding surveyed surveyed_as
 bad_report s f p q = rw (← p, q)
 
-pub good_report : (s : List ℕ) (f : Input) (n m : ℕ) (mesh : List Float) → f ≡ measured s → f ≡ Good n m → mesh ≡ numbers s 4 (n * 12) → reported s mesh n m ≡ surveyed s
+pub good_report : (s : List ℕ) (f : Option Input) (i : Input) (mesh : List Float) → f ≡ measured s → f ≡ Some i → mesh ≡ numbers s 4 (i.triangles * 12) → reported s mesh i.triangles i.rays ≡ surveyed s
 unfolding surveyed surveyed_as
-good_report s f n m mesh p q e = rw (← p, q, e)
+good_report s f i mesh p q e = rw (← p, q, e)

@@ -1,22 +1,18 @@
--- Two pieces, one written after the other, are the two written as one; and the loop that writes a piece. Assumes nothing.
-use mathlib.Core.Path.{◌≡◌, sym, ap, ◌∙◌, subst}
+-- Two pieces, one written after the other, are the two written as one; and a part of the room that a piece takes the place of. Assumes nothing.
+use mathlib.Core.Path.{◌≡◌, refl, sym, ap, ◌∙◌, subst}
 use mathlib.Core.List.{List, [], ◌++◌, append_assoc}
-use Prim.Native.Nat.{ℕ, ◌+◌, ◌≤◌, ◌<◌}
+use Prim.Native.Nat.{ℕ, ◌+◌, ◌-◌, ◌≤◌}
 use native.Mathlib.Omega.{arith}
-use native.Mathlib.Numerals.{add-one}
-use lib.ListN.{length, take, drop, get_or, set, length-append}
-use lib.Seq.{paste, paste-zero, paste-suc, take-length, length-take-le, take_at, drop_at, drop-drop}
+use lib.ListN.{length, take, drop, length-append}
+use lib.Seq.{paste-zero, take-length, length-take-le, take_at, drop_at, drop-drop}
+use borrow.Rule.Slice.PartMut.{put_mid}
+use Rattle.std.proofs.lemmas.Slice.{put_mid-paste}
 use Rattle.io.specs.Counts.{IsPrefixLen}
 use Rattle.report.specs.Text.{written, Wrote}
 
-pub paste_more : (d : List ℕ) (at : ℕ) (s : List ℕ) (i : ℕ) (e : List ℕ) → at + i < length d → i < length s → e ≡ paste d at s i → set e (at + i) (get_or s i 0) ≡ paste d at s (i + 1)
-paste_more d at s i e h k p = rw (p, add-one) (paste-suc d at s i 0 h k)
-
-pub pasted : (d : List ℕ) (at : ℕ) (s : List ℕ) (i : ℕ) (e : List ℕ) → i ≤ length s → length s ≤ i → e ≡ paste d at s i → Wrote d at s e (at + i)
+pub pasted : (d : List ℕ) (at : ℕ) (s ys : List ℕ) → ys ≡ s → Wrote d at s (put_mid at (at + length s - at) d ys) (at + length s)
 unfolding written
-pasted d at s i e h k p =
-    let q : i ≡ length s = omega arith in
-    record { room = rw (p, q, take-length); place = ap (λ (n : ℕ). at + n) q }
+pasted d at s ys e = record { room = put_mid-paste at (at + length s - at) d ys s (length s) e (omega arith) refl ∙ rw take-length; place = refl }
 
 front : (o : List ℕ) (a : ℕ) (p : List ℕ) → a + length p ≤ length o → length (take a o ++ p) ≡ a + length p
 front o a p h = length-append (take a o) p ∙ ap (λ (n : ℕ). n + length p) (length-take-le a o (omega arith))

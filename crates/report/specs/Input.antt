@@ -1,8 +1,7 @@
 -- The survey's input, measured whole (rules I1 and I2). Definitions only.
-use Rattle.std.specs.Prelude.{ℕ, ◌+◌, ◌*◌, Bool, cond, ◌&&◌, List, eqb, leb, length}
+use Rattle.std.specs.Prelude.{ℕ, ◌+◌, ◌*◌, Bool, cond, ◌&&◌, List, eqb, leb, length, Option, Some, None}
 use Rattle.report.specs.Little.{word}
 use Rattle.report.specs.declared.input.Input.{Input}
-use Rattle.report.specs.declared.input.Input.TheVariants.{Good, Bad}
 
 -- Rule I2: triangles at most, and rays
 abbrev pub most : ℕ
@@ -26,9 +25,13 @@ whole_length n m = count_at n + 4 + 48 * m
 unfoldable pub fine : ℕ → ℕ → ℕ → Bool
 fine bytes n m = leb n most && (leb m most && eqb bytes (whole_length n m))
 
--- Rule I2: all else is bad
-unfoldable pub measured_by : ℕ → ℕ → ℕ → Input
-measured_by bytes n m = cond (fine bytes n m) (Good n m) Bad
+-- what a good input holds
+abbrev pub good : ℕ → ℕ → Option Input
+good n m = Some (record { triangles = n; rays = m })
 
-unfoldable pub measured : List ℕ → Input
+-- Rule I2: all else is bad
+unfoldable pub measured_by : ℕ → ℕ → ℕ → Option Input
+measured_by bytes n m = cond (fine bytes n m) (good n m) None
+
+unfoldable pub measured : List ℕ → Option Input
 measured s = measured_by (length s) (word s 0) (word s (count_at (word s 0)))

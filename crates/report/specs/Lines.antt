@@ -1,9 +1,8 @@
 -- The lines of the report, each a list of bytes in ASCII with its newline. Definitions only.
-use Rattle.std.specs.Prelude.{ℕ, List, [], ◌∷◌, ◌++◌}
+use Rattle.std.specs.Prelude.{ℕ, List, [], ◌∷◌, ◌++◌, Option, Some, None}
 use Rattle.std.specs.Float.{binary64}
 use Rattle.std.specs.Float.Ieee.{to_bits}
-use Rattle.triangle.specs.declared.Found.{Found}
-use Rattle.triangle.specs.declared.Found.TheVariants.{At, Nothing}
+use Rattle.triangle.specs.declared.Hit.{Hit}
 use Rattle.lent.specs.Ladder.{Refusal, none, numbered}
 use Rattle.walk.specs.Answer.{Told}
 use Rattle.report.specs.Text.{hexadecimal, named, pair}
@@ -77,11 +76,11 @@ unfoldable pub refused_line : ℕ → ℕ → List ℕ
 refused_line k n = pair ray k refused n
 
 -- a walk that was not refused: a hit or a miss
-unfoldable pub walked_line : ℕ → Found → ℕ → ℕ → List ℕ
-walked_line k (At h) b c = hit_line k h.triangle (to_bits binary64 h.t) b c
-walked_line k Nothing b c = miss_line k b c
+unfoldable pub walked_line : ℕ → Option Hit → ℕ → ℕ → List ℕ
+walked_line k (Some h) b c = hit_line k h.triangle (to_bits binary64 h.t) b c
+walked_line k None b c = miss_line k b c
 
-unfoldable pub answer_line : ℕ → Refusal → Found → ℕ → ℕ → List ℕ
+unfoldable pub answer_line : ℕ → Refusal → Option Hit → ℕ → ℕ → List ℕ
 answer_line k (numbered n at) found b c = refused_line k n
 answer_line k none found b c = walked_line k found b c
 

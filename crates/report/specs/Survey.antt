@@ -1,12 +1,11 @@
 -- The whole report of an input: what the survey program prints (rules I1 to I6). Definitions only.
-use Rattle.std.specs.Prelude.{ℕ, zero, suc, ◌+◌, ◌*◌, List, [], ◌++◌, take, replicate, Float}
+use Rattle.std.specs.Prelude.{ℕ, zero, suc, ◌+◌, ◌*◌, List, [], ◌++◌, take, replicate, Float, Option, Some, None}
 use Rattle.float.specs.Number.{nought}
 use Rattle.lent.specs.Ladder.{Refusal, none, numbered}
 use Rattle.builder.specs.Build.{Outcome, built}
 use Rattle.tree.specs.Lent.{Lent, lent}
 use Rattle.walk.specs.Walk.{walk}
 use Rattle.report.specs.declared.input.Input.{Input}
-use Rattle.report.specs.declared.input.Input.TheVariants.{Good, Bad}
 use Rattle.report.specs.Little.{numbers, ray_of}
 use Rattle.report.specs.Input.{triangles_at, rays_at, measured}
 use Rattle.report.specs.Lines.{bad_input, build_refused_line, built_line, ray_line}
@@ -33,9 +32,9 @@ unfoldable pub reported : List ℕ → List Float → ℕ → ℕ → List ℕ
 reported s mesh n m = report_of s mesh n m (built_of mesh) (built_of mesh).answer.refusal
 
 -- Rule I2: the input is measured whole first, so cut input with a bad triangle is `bad input`
-unfoldable pub surveyed_as : List ℕ → Input → List ℕ
-surveyed_as s Bad = bad_input
-surveyed_as s (Good n m) = reported s (numbers s triangles_at (n * 12)) n m
+unfoldable pub surveyed_as : List ℕ → Option Input → List ℕ
+surveyed_as s None = bad_input
+surveyed_as s (Some i) = reported s (numbers s triangles_at (i.triangles * 12)) i.triangles i.rays
 
 unfoldable pub surveyed : List ℕ → List ℕ
 surveyed s = surveyed_as s (measured s)

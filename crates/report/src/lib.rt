@@ -7,15 +7,15 @@ mod number; // number.rt: numbers of the input
 mod text; // text.rt: bytes and digits, written into lent room
 mod line; // line.rt: the report's lines
 
-ghost use Rattle.std.specs.Prelude.{◌≡◌, ◌+◌, ◌*◌, ◌≤◌, min, length};
+ghost use Rattle.std.specs.Prelude.{◌+◌, ◌*◌, ◌≤◌, length};
 ghost use Rattle.io.specs.Counts.{IsPrefixLen};
-ghost use Rattle.tree.specs.Lent.{lent};
 ghost use Rattle.report.specs.Input.{most};
 ghost use Rattle.report.specs.Text.{Wrote};
 ghost use Rattle.report.specs.Survey.{ray_lines, reported, surveyed};
 
-use builder::Built;
 pub use input::{Input, measure};
+use lent::Refused;
+use tree::{Lent, Lists, Mesh};
 
 // The report of an input, as text at the front of `out`, and how many bytes of it there are; the rest of `out` stays. One line, `bad input`,
 // where the input is not what rule I2 says; one line where the build is refused; else the tree's counts and a line for each ray.
@@ -24,81 +24,65 @@ pub fn survey(input: &[u8], out: &mut [u8; 25728]) -> usize
     ensures wrote { Wrote out.old 0 (surveyed input.now) out.new result }
     ensures prefix_len { IsPrefixLen result out.new }
 {
-    let found = measure(input);
-    match found {
-        Input::Bad => text::put(out, 0, b"bad input\n"),
-        Input::Good { triangles, rays } => {
-            let mut mesh = [0.0f64; 2400];
-            let end = triangles * 12;
-            number::fill(input, 4, &mut mesh[0..end]);
-            report(input, &mesh[0..end], triangles, rays, out)
-        }
-    }
+    let Some(found) = measure(input) else {
+        return text::put(out, 0, b"bad input\n");
+    };
+    let mut mesh = [0.0f64; 2400];
+    let end = found.triangles * 12;
+    number::fill(input, 4, &mut mesh[0..end]);
+    report(input, &mesh[0..end], found, out)
 }
 
-// The report of n triangles and the input's rays.
-fn report(input: &[u8], triangles: &[f64], n: usize, rays: usize, out: &mut [u8]) -> usize
-    requires { (n ≤ most) × (rays ≤ most) × (8 + 96 * n + 48 * rays ≤ length input.now) × (25728 ≤ length out.old) }
-    ensures { Wrote out.old 0 (reported input.now triangles.now n rays) out.new result }
+// The report of the triangles and the input's rays.
+fn report(input: &[u8], triangles: &[f64], found: Input, out: &mut [u8]) -> usize
+    requires { (found.triangles ≤ most) × (found.rays ≤ most) × (8 + 96 * found.triangles + 48 * found.rays ≤ length input.now) × (25728 ≤ length out.old) }
+    ensures { Wrote out.old 0 (reported input.now triangles.now found.triangles found.rays) out.new result }
 {
+    let n = found.triangles;
     let materials = [0u32; 200];
     let mut index = [0u32; 200];
     let mut boxes = [0.0f64; 2394];
     let mut links = [0u32; 1197];
-    let answer = builder::build(triangles, &mut index, &mut boxes, &mut links);
-    match answer {
-        Built::Refused { number, at } => line::put_build_refused(out, 0, number, at),
-        Built::Tree { nodes, leaves } => {
-            let at = line::put_built(out, 0, nodes, leaves);
-            let shown = at_most_399(nodes);
+    match builder::build(triangles, &mut index, &mut boxes, &mut links) {
+        Err(Refused { reason, at }) => line::put_build_refused(out, 0, reason.number(), at),
+        Ok(tree) => {
+            let at = line::put_built(out, 0, tree.nodes, tree.leaves);
+            // 200 triangles have at most 399 nodes; this says it where the room is cut.
+            let shown = tree.nodes.min(399);
             let b = shown * 6;
             let l = shown * 3;
-            put_rays(
-                input,
-                8 + 96 * n,
-                triangles,
-                &materials[0..n],
-                &index[0..n],
-                &boxes[0..b],
-                &links[0..l],
-                rays,
-                out,
-                at,
-            )
+            let scene = Lent {
+                mesh: Mesh {
+                    triangles,
+                    materials: &materials[0..n],
+                },
+                tree: Lists {
+                    index: &index[0..n],
+                    boxes: &boxes[0..b],
+                    links: &links[0..l],
+                },
+            };
+            put_rays(input, 8 + 96 * n, &scene, found.rays, out, at)
         }
     }
-}
-
-// 200 triangles have at most 399 nodes; this says it where the room is cut.
-fn at_most_399(nodes: usize) -> usize
-    ensures { result ≡ min nodes 399 }
-{
-    if nodes < 399 { nodes } else { 399 }
 }
 
 // The line of each ray, those that stand in the input from a place on.
 fn put_rays(
     input: &[u8],
     from: usize,
-    triangles: &[f64],
-    materials: &[u32],
-    index: &[u32],
-    boxes: &[f64],
-    links: &[u32],
+    scene: &Lent,
     rays: usize,
     out: &mut [u8],
     at: usize,
 ) -> usize
     requires { (from + 48 * rays ≤ length input.now) × (at + 128 * rays ≤ length out.old) }
-    ensures { Wrote out.old at (ray_lines input.now from (lent triangles.now materials.now index.now boxes.now links.now) rays) out.new result }
+    ensures { Wrote out.old at (ray_lines input.now from scene.now rays) out.new result }
 {
-    let mut k: usize = 0;
     let mut next = at;
-    while k < rays {
+    for k in 0..rays {
         let ray = number::ray(input, from + 48 * k);
-        let answer = walk::walk(triangles, materials, index, boxes, links, ray);
-        next = line::put_ray(out, next, k as u64, answer);
-        k += 1;
+        next = line::put_ray(out, next, k as u64, walk::walk(scene, ray));
     }
     next
 }

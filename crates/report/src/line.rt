@@ -8,6 +8,7 @@ use crate::text;
 use walk::Answer;
 
 // The first line of a report: the tree's counts.
+#[tactic(auto, unfolding(crate::specs::Lines::built_line))]
 pub fn put_built(out: &mut [u8], at: usize, nodes: usize, leaves: usize) -> usize
     requires { at + 128 ≤ length out.old }
     ensures { (Wrote out.old at (built_line nodes leaves) out.new result) × (result ≤ at + 128) }
@@ -15,6 +16,7 @@ pub fn put_built(out: &mut [u8], at: usize, nodes: usize, leaves: usize) -> usiz
     text::put_pair(out, at, b"nodes ", nodes as u64, b" leaves ", leaves as u64)
 }
 
+#[tactic(auto, unfolding(crate::specs::Lines::build_refused_line))]
 pub fn put_build_refused(out: &mut [u8], at: usize, number: u32, place: usize) -> usize
     requires { at + 128 ≤ length out.old }
     ensures { (Wrote out.old at (build_refused_line number place) out.new result) × (result ≤ at + 128) }
@@ -23,7 +25,7 @@ pub fn put_build_refused(out: &mut [u8], at: usize, number: u32, place: usize) -
         out,
         at,
         b"build refused ",
-        number as u64,
+        u64::from(number),
         b" at ",
         place as u64,
     )
@@ -49,6 +51,7 @@ fn put_miss(out: &mut [u8], at: usize, k: u64, boxes: u64, triangles: u64) -> us
     text::put_pair(out, a, b" miss tests ", boxes, b" ", triangles)
 }
 
+#[tactic(auto, unfolding(crate::specs::Lines::refused_line))]
 fn put_refused(out: &mut [u8], at: usize, k: u64, number: u64) -> usize
     requires { at + 128 ≤ length out.old }
     ensures { (Wrote out.old at (refused_line k number) out.new result) × (result ≤ at + 128) }
@@ -70,12 +73,12 @@ pub fn put_ray(out: &mut [u8], at: usize, k: u64, answer: Answer) -> usize
             out,
             at,
             k,
-            hit.triangle as u64,
+            u64::from(hit.triangle),
             float::bits(hit.t),
             boxes,
             triangles,
         ),
         Answer::Missed { boxes, triangles } => put_miss(out, at, k, boxes, triangles),
-        Answer::Refused { number, at: _ } => put_refused(out, at, k, number as u64),
+        Answer::Refused(why) => put_refused(out, at, k, u64::from(why.reason.number())),
     }
 }

@@ -2,16 +2,14 @@
 ghost use Rattle.std.specs.Prelude.{◌+◌, ◌≤◌, length};
 ghost use Rattle.report.specs.Text.{Wrote, decimal, hexadecimal, named, pair};
 
+#[tactic(auto, using(crate::proofs::Writing::pasted))]
 pub fn put(out: &mut [u8], at: usize, piece: &[u8]) -> usize
     requires { at + length piece.now ≤ length out.old }
     ensures { Wrote out.old at piece.now out.new result }
 {
-    let mut i: usize = 0;
-    while i < piece.len() {
-        out[at + i] = piece[i];
-        i += 1;
-    }
-    at + i
+    let end = at + piece.len();
+    out[at..end].copy_from_slice(piece);
+    end
 }
 
 // The decimal digits of n, without leading zeros.

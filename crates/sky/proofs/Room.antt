@@ -8,7 +8,7 @@ use lib.Seq.{sets}
 use borrow.Author.Tests.{ltb-false}
 use lib.Ieee.{Float, nan}
 use Rattle.lent.specs.Limits.{most_triangles}
-use Rattle.lent.specs.Ladder.{Refusal, none, numbered, triangle_count, first_failed, answered as answered_by}
+use Rattle.lent.specs.Ladder.{none, triangle_count, first_failed, answered as answered_by}
 use Rattle.lent.specs.Flat.{put, records}
 use Rattle.lent.proofs.Ladder.{ends, goes, serves, judges, judged, agree, agreed, not_below, all_passed, each_passed, apart}
 use Rattle.lent.proofs.Flat.{fill_more, records_length, records_at}
@@ -18,10 +18,8 @@ use Rattle.walk.specs.declared.Answer.{Answer}
 use Rattle.tree.specs.Lent.{Mesh, Lent, Labelled}
 use Rattle.walk.specs.Answer.{told as answered}
 use Rattle.walk.specs.Walk.{walk}
-use Rattle.sky.specs.declared.Filled.{Filled}
-use Rattle.sky.specs.declared.Filled.TheVariants.{Places, Refused}
 use Rattle.sky.specs.declared.Place.{Place}
-use Rattle.sky.specs.Sky.{ray_count, place_of, place_for, told_of, told_for, times_of, times_for, place_at, sky_refusal, Filling, filling, filled, sky_checks, sky}
+use Rattle.sky.specs.Sky.{ray_count, place_of, place_for, told_of, told_for, times_of, times_for, place_at, Filling, filled, sky_checks, sky}
 
 pub place_is : (s : Lent) (rays : List Float) (k : ℕ) (r : Ray) (a : Answer) (p : Place) → r ≡ ray_at rays k → answered a ≡ walk s r → p ≡ place_of (answered a) → p ≡ place_for s rays k
 unfolding place_for
@@ -54,26 +52,8 @@ module _ (m : Mesh) (rays times : List Float) (told : List ℕ) where
         roomy = ltb-false _ _ e.1.1.1.1.1.0;
       }
 
--- as it was judged
-module _ (a : Filled) (r : Refusal) (is : sky_refusal a ≡ r) where
-  pub judged_none : a ≡ Places → r ≡ none
-  unfolding sky_refusal
-  judged_none e = sym is ∙ ap sky_refusal e
-
-  pub judged_failed : (number at : ℕ) → a ≡ Refused number at → r ≡ numbered number at
-  unfolding sky_refusal
-  judged_failed number at e = sym is ∙ ap sky_refusal e
-
 module _ (s : Lent) (rays : List Float) where
-  -- ---- so many written
-  pub none_yet : (times : List Float) → times ≡ records (times_for s rays) 0 ++ drop (0 * 3) times
-  unfolding records
-  none_yet times = refl
-
-  pub none_told : (told : List ℕ) → told ≡ records (told_for s rays) 0 ++ drop (0 * 5) told
-  unfolding records
-  none_told told = refl
-
+  -- ---- one more written
   module _ (k : ℕ) (p : Place) (is : p ≡ place_for s rays k) where
     pub time_more : (times room : List Float) → k * 3 + 3 ≤ length room → times ≡ records (times_for s rays) k ++ drop (k * 3) room → put 3 times k (times_of p) ≡ records (times_for s rays) (k + 1) ++ drop ((k + 1) * 3) room
     unfolding put
@@ -100,15 +80,7 @@ module _ (s : Lent) (rays : List Float) where
       time p j l e = records_at (times_for s rays) 3 (λ i. refl) n (drop (n * 3) times) k p j nan h l e
 
   -- ---- the call
-  pub filled_is : (n : ℕ) (times times' : List Float) (told told' : List ℕ) → times' ≡ records (times_for s rays) n ++ drop (n * 3) times → told' ≡ records (told_for s rays) n ++ drop (n * 5) told → filling none times' told' ≡ filled s rays n times told
-  unfolding filled
-  filled_is n times times' told told' e f = rw (e, f)
-
   module _ (times : List Float) (told : List ℕ) where
-    pub refused_is : (number at : ℕ) → first_failed (sky_checks s.mesh rays times told) ≡ numbered number at → filling (sky_refusal (Refused number at)) times told ≡ sky s rays times told
-    unfolding sky sky_refusal answered_by
-    refused_is number at p = ends (judged (numbered number at) (sym p) refl)
-
     pub served_is : (x : Filling) → first_failed (sky_checks s.mesh rays times told) ≡ none → x ≡ filled s rays (ray_count rays) times told → x ≡ sky s rays times told
     unfolding sky answered_by
     served_is x p e = ends (judged none (sym p) e)

@@ -1,17 +1,14 @@
 -- Many rays at once (rules K1 to K4): what the call answers and leaves in the lent answer room, through the single walk's definition. Definitions only.
-use Rattle.std.specs.Prelude.{ℕ, ◌+◌, ◌*◌, ◌/◌, ◌%◌, not, List, [], ◌∷◌, ◌++◌, ltb, eqb, length, get_or, drop, Float}
+use Rattle.std.specs.Prelude.{ℕ, ◌+◌, ◌*◌, ◌/◌, ◌%◌, not, List, [], ◌∷◌, ◌++◌, ltb, eqb, length, get_or, drop, Float, Option, Some, None}
 use Rattle.std.specs.Float.{nan}
 use Rattle.lent.specs.Ladder.{Refusal, none, numbered, Check, check, unless, ragged, crowded, unlabelled}
 use Rattle.lent.specs.Flat.{records}
 use Rattle.float.specs.Number.{nought}
 use Rattle.aabb.specs.Vector.{ray_at}
-use Rattle.triangle.specs.declared.Found.{Found}
-use Rattle.triangle.specs.declared.Found.TheVariants.{At, Nothing}
+use Rattle.triangle.specs.declared.Hit.{Hit}
 use Rattle.tree.specs.Lent.{Mesh, Lent}
 use Rattle.walk.specs.Answer.{Told}
 use Rattle.walk.specs.Walk.{walk}
-use Rattle.sky.specs.declared.Filled.{Filled}
-use Rattle.sky.specs.declared.Filled.TheVariants.{Places, Refused}
 use Rattle.sky.specs.declared.Place.{Place}
 
 -- Rule D6: six numbers a ray
@@ -20,9 +17,9 @@ ray_count rays = length rays / 6
 
 -- ---- one place
 -- Rule K2: how the walk ended, what was hit or refused, t, u, v, both counts, and the material; zeros for what there isn't
-unfoldable pub placed : Refusal → Found → ℕ → ℕ → Place
-placed none (At h) boxes triangles = record { outcome = 100; which = h.triangle; t = h.t; u = h.u; v = h.v; boxes = boxes; triangles = triangles; material = h.material }
-placed none Nothing boxes triangles = record { outcome = 0; which = 0; t = nought; u = nought; v = nought; boxes = boxes; triangles = triangles; material = 0 }
+unfoldable pub placed : Refusal → Option Hit → ℕ → ℕ → Place
+placed none (Some h) boxes triangles = record { outcome = 100; which = h.triangle; t = h.t; u = h.u; v = h.v; boxes = boxes; triangles = triangles; material = h.material }
+placed none None boxes triangles = record { outcome = 0; which = 0; t = nought; u = nought; v = nought; boxes = boxes; triangles = triangles; material = 0 }
 placed (numbered number at) hit boxes triangles = record { outcome = number; which = at; t = nought; u = nought; v = nought; boxes = 0; triangles = 0; material = 0 }
 
 unfoldable pub place_of : Told → Place
@@ -60,11 +57,6 @@ place_at times told k = record {
 }
 
 -- ---- the call
--- its answer: every place is filled, or the refusal of the whole call (rule K4)
-unfoldable pub sky_refusal : Filled → Refusal
-sky_refusal Places = none
-sky_refusal (Refused number at) = numbered number at
-
 -- the refusal if there is one, and what the lent answer room holds at the end
 pub record Filling : Type 0 where
   pub refusal : Refusal

@@ -5,19 +5,14 @@
 ghost use Rattle.std.specs.Prelude.{◌≡◌, ◌++◌, ◌+◌, ◌*◌, ◌≤◌, length, drop};
 ghost use Rattle.lent.specs.Ladder.{first_failed};
 ghost use Rattle.lent.specs.Flat.{put as written, records};
-ghost use Rattle.tree.specs.Lent.{mesh_of, lent};
+ghost use Rattle.lent.specs.Refusals.{refusal_of};
 ghost use Rattle.walk.specs.Answer.{told as answered};
-ghost use Rattle.sky.specs.Sky.{place_of, told_of, times_of, times_for, told_for, sky_refusal, filling, sky_checks, sky};
+ghost use Rattle.sky.specs.Sky.{ray_count, place_of, told_of, times_of, times_for, told_for, filling, sky_checks, sky};
 
 use aabb::Ray;
+use lent::{Reason, Refused};
+use tree::{Lent, Mesh};
 use walk::Answer;
-
-// What the call answers: every ray's place is filled, or the whole call is refused, with a number and `at`.
-#[derive(Clone, Copy)]
-pub enum Filled {
-    Places,
-    Refused { number: u32, at: u64 },
-}
 
 // What one place holds (rule K2): 0 for a miss, 100 for a hit, else the refusal number; which triangle, or where it was refused; t; u and
 // v; the box tests and the triangle tests; the material; zeros for what there isn't.
@@ -34,6 +29,7 @@ pub struct Place {
 }
 
 // What the place of a walk's answer holds.
+#[tactic(auto, unfolding(walk::specs::Answer::told, crate::specs::Sky::place_of, crate::specs::Sky::placed))]
 fn place_of(answer: Answer) -> Place
     ensures { result ≡ place_of (answered answer) }
 {
@@ -44,13 +40,13 @@ fn place_of(answer: Answer) -> Place
             triangles,
         } => Place {
             outcome: 100,
-            which: hit.triangle as u64,
+            which: u64::from(hit.triangle),
             t: hit.t,
             u: hit.u,
             v: hit.v,
             boxes,
             triangles,
-            material: hit.material as u64,
+            material: u64::from(hit.material),
         },
         Answer::Missed { boxes, triangles } => Place {
             outcome: 0,
@@ -62,9 +58,9 @@ fn place_of(answer: Answer) -> Place
             triangles,
             material: 0,
         },
-        Answer::Refused { number, at } => Place {
-            outcome: number as u64,
-            which: at,
+        Answer::Refused(Refused { reason, at }) => Place {
+            outcome: u64::from(reason.number()),
+            which: at as u64,
             t: 0.0,
             u: 0.0,
             v: 0.0,
@@ -83,110 +79,63 @@ fn put(times: &mut [f64], told: &mut [u64], k: usize, place: Place)
 {
     let at = k * 5;
     let from = k * 3;
-    times[from] = place.t;
-    times[from + 1] = place.u;
-    times[from + 2] = place.v;
-    told[at] = place.outcome;
-    told[at + 1] = place.which;
-    told[at + 2] = place.boxes;
-    told[at + 3] = place.triangles;
-    told[at + 4] = place.material;
+    times[from..from + 3].copy_from_slice(&[place.t, place.u, place.v]);
+    told[at..at + 5].copy_from_slice(&[
+        place.outcome,
+        place.which,
+        place.boxes,
+        place.triangles,
+        place.material,
+    ]);
 }
 
-// The places of n rays, in room that suffices.
-fn fill(
-    triangles: &[f64],
-    materials: &[u32],
-    index: &[u32],
-    boxes: &[f64],
-    links: &[u32],
-    rays: &[f64],
-    n: usize,
-    times: &mut [f64],
-    told: &mut [u64],
-)
-    requires { (n * 3 ≤ length times.old) × (n * 5 ≤ length told.old) }
-    ensures times_after { times.new ≡ records (times_for (lent triangles.now materials.now index.now boxes.now links.now) rays.now) n ++ drop (n * 3) times.old }
-    ensures told_after { told.new ≡ records (told_for (lent triangles.now materials.now index.now boxes.now links.now) rays.now) n ++ drop (n * 5) told.old }
+// The places of the rays, in room that suffices.
+#[tactic(auto, unfolding(lent::specs::Flat::records))]
+fn fill(scene: &Lent, rays: &[f64], times: &mut [f64], told: &mut [u64])
+    requires { (ray_count rays.now * 3 ≤ length times.old) × (ray_count rays.now * 5 ≤ length told.old) }
+    ensures times_after { times.new ≡ records (times_for scene.now rays.now) (ray_count rays.now) ++ drop (ray_count rays.now * 3) times.old }
+    ensures told_after { told.new ≡ records (told_for scene.now rays.now) (ray_count rays.now) ++ drop (ray_count rays.now * 5) told.old }
 {
-    let mut k: usize = 0;
-    while k < n {
+    for k in 0..rays.len() / 6 {
         let ray = Ray::read(rays, k);
-        let answer = walk::walk(triangles, materials, index, boxes, links, ray);
+        let answer = walk::walk(scene, ray);
         put(times, told, k, place_of(answer));
-        k += 1;
     }
 }
 
 // What `sky` would answer for these, with nothing written: the refusals of the whole call, in this order: 1 triangles that are not in twelves;
 // 2 more than 65,536 of them; 18 not one material for each; 14 rays that are not in sixes; 13 times shorter than three a ray or told shorter than
 // five.
-pub fn judge(
-    triangles: &[f64],
-    materials: &[u32],
-    rays: &[f64],
-    times: &[f64],
-    told: &[u64],
-) -> Filled
-    ensures { sky_refusal result ≡ first_failed (sky_checks (mesh_of triangles.now materials.now) rays.now times.now told.now) }
+#[tactic(auto, unfolding(crate::specs::Sky::sky_checks, lent::specs::Ladder::first_failed))]
+pub fn judge(mesh: &Mesh, rays: &[f64], times: &[f64], told: &[u64]) -> Result<(), Refused>
+    ensures { refusal_of result ≡ first_failed (sky_checks mesh.now rays.now times.now told.now) }
 {
-    let numbers = triangles.len();
-    if numbers % 12 != 0 {
-        return Filled::Refused { number: 1, at: 0 };
-    }
-    let n = numbers / 12;
-    if lent::MOST_TRIANGLES < n {
-        return Filled::Refused {
-            number: 2,
-            at: n as u64,
-        };
-    }
-    if materials.len() != n {
-        return Filled::Refused { number: 18, at: 0 };
+    mesh.count()?;
+    if rays.len() % 6 != 0 {
+        return Err(Refused {
+            reason: Reason::RaggedRays,
+            at: 0,
+        });
     }
     let count = rays.len() / 6;
-    if rays.len() % 6 != 0 {
-        return Filled::Refused { number: 14, at: 0 };
+    if times.len() < count * 3 || told.len() < count * 5 {
+        return Err(Refused {
+            reason: Reason::ShortAnswers,
+            at: 0,
+        });
     }
-    if times.len() < count * 3 {
-        return Filled::Refused { number: 13, at: 0 };
-    }
-    if told.len() < count * 5 {
-        return Filled::Refused { number: 13, at: 0 };
-    }
-    Filled::Places
+    Ok(())
 }
 
 // The walk of every ray, six numbers each: origin, direction. Place k is what `walk` answers for ray k: times[3k..3k+3] are t, u and v of a
 // hit, else 0, and told[5k..5k+5] are the outcome (0 a miss, 100 a hit, else the refusal number), the triangle or the refusal's `at`, the box
 // tests, the triangle tests and the triangle's material, 0 where none applies. A refused ray does not stop the rest; room beyond the rays stays. The whole call is
 // refused as `judge` says, and then writes nothing.
-pub fn sky(
-    triangles: &[f64],
-    materials: &[u32],
-    index: &[u32],
-    boxes: &[f64],
-    links: &[u32],
-    rays: &[f64],
-    times: &mut [f64],
-    told: &mut [u64],
-) -> Filled
-    ensures { filling (sky_refusal result) times.new told.new ≡ sky (lent triangles.now materials.now index.now boxes.now links.now) rays.now times.old told.old }
+#[tactic(auto, unfolding(crate::specs::Sky::sky, crate::specs::Sky::sky_checks, crate::specs::Sky::filled, lent::specs::Ladder::unless, lent::specs::Ladder::answered, lent::specs::Ladder::first_failed))]
+pub fn sky(scene: &Lent, rays: &[f64], times: &mut [f64], told: &mut [u64]) -> Result<(), Refused>
+    ensures { filling (refusal_of result) times.new told.new ≡ sky scene.now rays.now times.old told.old }
 {
-    let answer = judge(triangles, materials, rays, times, told);
-    if let Filled::Refused { number, at } = answer {
-        return Filled::Refused { number, at };
-    }
-    fill(
-        triangles,
-        materials,
-        index,
-        boxes,
-        links,
-        rays,
-        rays.len() / 6,
-        times,
-        told,
-    );
-    Filled::Places
+    judge(&scene.mesh, rays, times, told)?;
+    fill(scene, rays, times, told);
+    Ok(())
 }

@@ -112,9 +112,6 @@ module _ (s : List ℕ) (at : ℕ) where
   abbrev Far : ℕ → Type 0
   Far k = word s k % 2147483648 + 0x2c7f_ffff < 2147483648
 
-  abbrev Steep : ℕ → Type 0
-  Steep k = word s k % 2147483648 + 0x3fff_ffff < 2147483648
-
   far : (i k : ℕ) → i ≡ k → Far i → T (within two_to_40 (widened s k))
   far i k e p = far→within s k (subst Far e p)
 

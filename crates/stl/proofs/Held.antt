@@ -1,20 +1,21 @@
 -- The triangles of the mesh that a file holds are the file's: so what is asked of the one is asked of the other. Assumes nothing.
+use Rattle.std.specs.Prelude.{None}
 use mathlib.Core.Path.{◌≡◌, refl, sym, ap, ◌∙◌, subst}
-use Prim.Native.Nat.{ℕ, ◌+◌, ◌*◌, ◌-◌, ◌<◌}
+use Prim.Native.Nat.{ℕ, ◌+◌, ◌*◌, ◌<◌}
 use native.Mathlib.Omega.{arith}
-use mathlib.Core.Bool.{true, false}
+use mathlib.Core.Bool.{Bool, not}
 use mathlib.Core.List.{List, [], ◌++◌, append-nil}
 use lib.Dec.{T}
 use lib.ListN.{length, get_or}
 use lib.Ieee.{Float, nan}
+use Rattle.lent.specs.Lowest.{lowest}
+use Rattle.lent.proofs.Lowest.{agree}
 use Rattle.lent.proofs.Flat.{records_at, records_length}
 use Rattle.aabb.specs.declared.vector.Vec3.{Vec3}
 use Rattle.aabb.specs.Vector.{vector_at}
 use Rattle.triangle.specs.declared.Triangle.{Triangle}
-use Rattle.triangle.specs.declared.Unadmitted.{Unadmitted}
-use Rattle.triangle.specs.declared.Unadmitted.TheVariants.{At, Nothing}
-use Rattle.triangle.specs.Mesh.{triangle_at, admitted_triangle, first_refused}
-use Rattle.triangle.proofs.Admitting.{refused_go, refused_stop, none_refused, all_admitted}
+use Rattle.triangle.specs.Mesh.{triangle_at, admitted_triangle, refused_at, first_refused}
+use Rattle.triangle.proofs.Admitting.{none_refused, all_admitted}
 use Rattle.stl.specs.Layout.{triangle_in, numbers_of, mesh_in}
 use Rattle.stl.proofs.Filling.{numbers_length}
 
@@ -55,18 +56,16 @@ module _ (s : List ℕ) (at n : ℕ) where
   own_triangle i h = ap (λ (m : List Float). triangle_at m i) (sym (append-nil (mesh_in s at n))) ∙ mesh_triangle [] i h
 
   -- ---- the lowest that isn't admitted
-  abbrev lowest : ℕ → ℕ → Unadmitted
-  lowest i k = first_refused (mesh_in s at n) i k
+  abbrev pub refused_in : ℕ → Bool
+  refused_in i = not (admitted_triangle (triangle_in s (at + 50 * i)))
 
-  pub held_go : (i : ℕ) → i < n → admitted_triangle (triangle_in s (at + 50 * i)) ≡ true → lowest i (n - i) ≡ lowest (i + 1) (n - (i + 1))
-  held_go i h e = refused_go (mesh_in s at n) i n h (ap admitted_triangle (own_triangle i h) ∙ e)
+  pub held_lowest : lowest refused_in 0 n ≡ first_refused (mesh_in s at n) 0 n
+  unfolding first_refused
+  held_lowest = agree refused_in (refused_at (mesh_in s at n)) n (λ j h. ap (λ (t : Triangle). not (admitted_triangle t)) (sym (own_triangle j h)))
 
-  pub held_stop : (i : ℕ) → i < n → admitted_triangle (triangle_in s (at + 50 * i)) ≡ false → lowest i (n - i) ≡ At i
-  held_stop i h e = refused_stop (mesh_in s at n) i n h (ap admitted_triangle (own_triangle i h) ∙ e)
-
-  pub held_admitted : lowest 0 n ≡ Nothing → (j : ℕ) → j < n → T (admitted_triangle (triangle_in s (at + 50 * j)))
+  pub held_admitted : first_refused (mesh_in s at n) 0 n ≡ None → (j : ℕ) → j < n → T (admitted_triangle (triangle_in s (at + 50 * j)))
   held_admitted e j h = subst (λ (t : Triangle). T (admitted_triangle t)) (own_triangle j h) (none_refused (mesh_in s at n) n 0 j e (omega arith) (omega arith))
 
-  pub admitted_held : ((j : ℕ) → j < n → T (admitted_triangle (triangle_in s (at + 50 * j)))) → lowest 0 n ≡ Nothing
+  pub admitted_held : ((j : ℕ) → j < n → T (admitted_triangle (triangle_in s (at + 50 * j)))) → first_refused (mesh_in s at n) 0 n ≡ None
   admitted_held h =
       all_admitted (mesh_in s at n) n 0 (λ j p q. let l : j < n = omega arith in subst (λ (t : Triangle). T (admitted_triangle t)) (sym (own_triangle j l)) (h j l))

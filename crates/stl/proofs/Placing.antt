@@ -1,11 +1,11 @@
 -- Parts of a file, one after the other. Assumes nothing.
 use mathlib.Core.Path.{◌≡◌, refl, sym, ap, ◌∙◌, subst}
-use Prim.Native.Nat.{ℕ, zero, suc, ◌+◌, ◌-◌, ◌*◌, ◌/◌, ◌%◌, ◌≤◌, ◌<◌}
+use Prim.Native.Nat.{ℕ, zero, suc, ◌+◌, ◌-◌, ◌*◌, ◌≤◌, ◌<◌}
 use native.Mathlib.Numerals.{add-one}
 use native.Mathlib.Omega.{arith}
 use mathlib.Core.List.{List, [], ◌∷◌, ◌++◌, append_assoc}
-use lib.ListN.{length, take, drop, replicate, set, length-append, length-set, length-replicate, replicate-append-replicate, drop_of_length-le}
-use lib.Seq.{sets, sets-eq, take_all, take-suc-set}
+use lib.ListN.{length, take, drop, replicate, set, length-append, length-replicate, drop_of_length-le}
+use lib.Seq.{sets-eq, take_all}
 use lib.Ieee.{Float}
 use borrow.Rule.Slice.PartMut.{put_mid, mid_len}
 use Rattle.aabb.specs.declared.vector.Vec3.{Vec3}
@@ -41,21 +41,6 @@ number_long ys x e = ap length e ∙ number_length x
 
 pub vector_long : (ys : List ℕ) (a : Vec3) → ys ≡ vector_bytes a → length ys ≡ 12
 vector_long ys a e = ap length e ∙ vector_length a
-
-pub word_long : (ys : List ℕ) (w : ℕ) → ys ≡ bytes_of w → length ys ≡ 4
-word_long ys w e = ap length e ∙ bytes_length w
-
-last_store : (xs : List ℕ) → length xs ≡ 50 → 49 < length (set xs 48 0)
-last_store xs l = simp length-set (omega arith)
-
-both_stores : (xs : List ℕ) → length xs ≡ 50 → length (set (set xs 48 0) 49 0) ≡ 50
-both_stores xs l = simp length-set l
-
--- ---- four bytes
-pub word_is : (out : List ℕ) (w a b c d : ℕ) → length out ≡ 4 → a ≡ w % 256 → b ≡ w / 256 % 256 → c ≡ w / 65536 % 256 → d ≡ w / 16777216 % 256 → sets out 0 (a ∷ b ∷ c ∷ d ∷ []) ≡ bytes_of w
-unfolding bytes_of
-word_is out w a b c d n pa pb pc pd =
-    sets-eq (a ∷ b ∷ c ∷ d ∷ []) out 0 (omega arith) ∙ (ap (λ (r : List ℕ). a ∷ b ∷ c ∷ d ∷ r) (drop_of_length-le out {i = 4} (omega arith)) ∙ rw (pa, pb, pc, pd))
 
 -- ---- three numbers
 module _ (out x : List ℕ) (n : length out ≡ 12) (lx : length x ≡ 4) where
@@ -135,15 +120,6 @@ module _ (out p q r s : List ℕ) (t : Triangle) (n : length out ≡ 50) (pp : p
   abbrev placed : List ℕ
   placed = put_mid 36 12 (put_mid 24 12 (put_mid 12 12 (put_mid 0 12 out p) q) r) s
 
-  pub placed_length : length placed ≡ 50
-  placed_length = length_t4 out p n (vector_long p t.normal pp) q (vector_long q t.v0 pq) r (vector_long r t.v1 pr) s (vector_long s t.v2 ps)
-
-  pub placed_last : 49 < length (set placed 48 0)
-  placed_last = last_store placed placed_length
-
-  pub placed_both : length (set (set placed 48 0) 49 0) ≡ 50
-  placed_both = both_stores placed placed_length
-
   pub record_is : set (set placed 48 0) 49 0 ≡ record_of t
   unfolding record_of
   record_is = four_are out p n (vector_long p t.normal pp) q (vector_long q t.v0 pq) r (vector_long r t.v1 pr) s (vector_long s t.v2 ps) ∙ rw (pp, pq, pr, ps)
@@ -178,22 +154,6 @@ module _ (mesh : List Float) where
 
     pub records_same_length : length (put_mid (50 * i) (50 * i + 50 - 50 * i) out ys) ≡ length out
     records_same_length = part_length (50 * i) (50 * i + 50) out ys (omega arith) fifty_long
-
-  pub records_whole : (out : List ℕ) (i n : ℕ) → length out ≡ 50 * n → i ≤ n → n ≤ i → take (50 * i) out ≡ records_of mesh i → out ≡ records_of mesh n
-  records_whole out i n l h g m = sym (take_all (50 * i) out (omega arith)) ∙ (m ∙ ap (λ (k : ℕ). records_of mesh k) (same i n h g))
-    where
-      same : (i n : ℕ) → i ≤ n → n ≤ i → i ≡ n
-      same i n h g = omega arith
-
--- ---- zeros
-pub zeros_more : (xs : List ℕ) (i : ℕ) → i < length xs → take i xs ≡ replicate i 0 → take (i + 1) (set xs i 0) ≡ replicate (i + 1) 0
-zeros_more xs i h e = ap (λ (k : ℕ). take k (set xs i 0)) (add-one i) ∙ (take-suc-set xs i 0 h ∙ (ap (λ (z : List ℕ). z ++ (0 ∷ [])) e ∙ (replicate-append-replicate i 1 0)))
-
-pub zeros_whole : (xs : List ℕ) (i n : ℕ) → length xs ≡ n → length xs ≤ i → i ≤ n → take i xs ≡ replicate i 0 → xs ≡ replicate n 0
-zeros_whole xs i n l h g e = sym (take_all i xs h) ∙ (e ∙ ap (λ (k : ℕ). replicate k 0) same)
-  where
-    same : i ≡ n
-    same = omega arith
 
 -- ---- the whole file
 module _ (out z w r : List ℕ) (n : ℕ) (l : length out ≡ 84 + 50 * n) (lz : length z ≡ 80) (lw : length w ≡ 4) (lr : length r ≡ 50 * n) where

@@ -1,4 +1,5 @@
 -- Each return of a reading is a step of its ladder. Assumes nothing.
+use Rattle.std.specs.Prelude.{Option, Some, None}
 use mathlib.Core.Path.{◌≡◌, refl, sym, ap, ◌∙◌}
 use Prim.Native.Nat.{ℕ, ◌+◌, ◌*◌, ◌≤◌, ◌<◌}
 use native.Mathlib.Omega.{arith}
@@ -7,13 +8,11 @@ use lib.ListN.{length, drop, replicate}
 use lib.Ieee.{Float}
 use Rattle.lent.specs.Limits.{most_triangles}
 use Rattle.lent.proofs.Ladder.{ends, serves, stops, goes, differ, agree, below, not_below}
-use Rattle.triangle.specs.declared.Unadmitted.{Unadmitted}
-use Rattle.triangle.specs.declared.Unadmitted.TheVariants.{At, Nothing}
-use Rattle.triangle.specs.Mesh.{first_refused}
+use Rattle.triangle.specs.Mesh.{first_refused, unadmitted}
 use Rattle.stl.specs.Layout.{word, mesh_in}
 use Rattle.stl.specs.Answers.{Read, read_as, served, refused}
 use Rattle.stl.specs.Reading.{read_count, read_from}
-use Rattle.stl.proofs.Rungs.{five_stops, five_goes}
+use Rattle.stl.proofs.Rungs.{fails, passes}
 
 module _ (file : List ℕ) (at n : ℕ) (triangles : List Float) (materials : List ℕ) where
   -- what is answered for n is answered for the count that is n
@@ -53,12 +52,12 @@ module _ (file : List ℕ) (at n : ℕ) (triangles : List Float) (materials : Li
         unfolding read_count
         material_room h = ends (goes (not_below whole) (goes (agree long) (goes (not_below few) (goes (not_below ample) (stops (below h) refl)))))
 
-        module _ (roomy : n ≤ length materials) (f : Unadmitted) (is : f ≡ first_refused (mesh_in file (at + 4) n) 0 n) where
-          pub unfit : (i : ℕ) → f ≡ At i → refusing 5 i ≡ answer
-          unfolding read_count
-          unfit i p = ends (goes (not_below whole) (goes (agree long) (goes (not_below few) (goes (not_below ample) (goes (not_below roomy) (five_stops (sym is ∙ p) refl))))))
+        module _ (roomy : n ≤ length materials) (f : Option ℕ) (is : f ≡ first_refused (mesh_in file (at + 4) n) 0 n) where
+          pub unfit : (i : ℕ) → f ≡ Some i → refusing 5 i ≡ answer
+          unfolding read_count unadmitted
+          unfit i p = ends (goes (not_below whole) (goes (agree long) (goes (not_below few) (goes (not_below ample) (goes (not_below roomy) (fails (ap unadmitted (sym is ∙ p)) refl))))))
 
-          pub is_read : (x : List Float) (y : List ℕ) → f ≡ Nothing → x ≡ mesh_in file (at + 4) n ++ drop (12 * n) triangles → y ≡ replicate n 0 ++ drop n materials → read_as (served n) x y ≡ answer
-          unfolding read_count
+          pub is_read : (x : List Float) (y : List ℕ) → f ≡ None → x ≡ mesh_in file (at + 4) n ++ drop (12 * n) triangles → y ≡ replicate n 0 ++ drop n materials → read_as (served n) x y ≡ answer
+          unfolding read_count unadmitted
           is_read x y p q r =
-              ends (goes (not_below whole) (goes (agree long) (goes (not_below few) (goes (not_below ample) (goes (not_below roomy) (five_goes (sym is ∙ p) (serves (λ z. read_as (served n) (q z) (r z)))))))))
+              ends (goes (not_below whole) (goes (agree long) (goes (not_below few) (goes (not_below ample) (goes (not_below roomy) (passes (ap unadmitted (sym is ∙ p)) (serves (λ z. read_as (served n) (q z) (r z)))))))))

@@ -2,23 +2,19 @@
 use mathlib.Core.Path.{◌≡◌, refl, ap, ◌∙◌}
 use Prim.Native.Nat.{ℕ, ◌-◌}
 use native.Mathlib.Nat.{sub-zero}
+use mathlib.Core.Bool.{true, false}
 use mathlib.Core.List.{List, ◌∷◌, ◌++◌}
 use lib.ListN.{drop}
-use Rattle.lent.specs.Ladder.{Check}
+use Rattle.lent.specs.Ladder.{Check, check}
 use Rattle.lent.proofs.Ladder.{Ends, goes, stops}
-use Rattle.triangle.specs.declared.Unadmitted.{Unadmitted}
-use Rattle.triangle.specs.declared.Unadmitted.TheVariants.{At, Nothing}
-use Rattle.triangle.specs.Mesh.{unadmitted}
 
--- ---- check 5, anywhere in a ladder
-module _ {A : Type 0} {checks : List Check} {refused : ℕ → ℕ → A} {served x : A} {f : Unadmitted} where
-  pub five_stops : {i : ℕ} → f ≡ At i → x ≡ refused 5 i → Ends (unadmitted f ∷ checks) refused served x
-  unfolding unadmitted
-  five_stops p e = rw p (stops refl e)
+-- ---- a check of which only this much is known, as one of what was looked for is
+module _ {A : Type 0} {checks : List Check} {refused : ℕ → ℕ → A} {served x : A} {c : Check} {number at : ℕ} where
+  pub fails : c ≡ check true number at → x ≡ refused number at → Ends (c ∷ checks) refused served x
+  fails p e = rw p (stops refl e)
 
-  pub five_goes : f ≡ Nothing → Ends checks refused served x → Ends (unadmitted f ∷ checks) refused served x
-  unfolding unadmitted
-  five_goes p e = rw p (goes refl e)
+  pub passes : c ≡ check false number at → Ends checks refused served x → Ends (c ∷ checks) refused served x
+  passes p e = rw p (goes refl e)
 
 -- what is written in front of the rest of a room
 pub front_room : {X : Type 0} (ys zs room : List X) (k : ℕ) → ys ≡ zs → ys ++ drop (k - 0) room ≡ zs ++ drop k room

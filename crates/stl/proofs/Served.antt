@@ -1,4 +1,5 @@
 -- What a reading, or a writing, that was served shows: every check passed, and the rooms hold what is served. Assumes nothing.
+use Rattle.std.specs.Prelude.{None}
 use mathlib.Core.Path.{◌≡◌, refl, sym, ap, ◌∙◌, subst}
 use Prim.Native.Nat.{ℕ, ◌+◌, ◌*◌, ◌%◌, ◌≤◌, ◌<◌}
 use native.Mathlib.Omega.{arith}
@@ -10,14 +11,13 @@ use borrow.Author.Tests.{eqb-true, ltb-false, not-false}
 use Rattle.lent.specs.Limits.{most_triangles}
 use Rattle.lent.specs.Ladder.{none, numbered, triangle_count}
 use Rattle.lent.proofs.Ladder.{all_passed}
-use Rattle.triangle.specs.declared.Unadmitted.TheVariants.{Nothing}
 use Rattle.triangle.specs.Mesh.{triangle_at, admitted_triangle, first_refused}
 use Rattle.triangle.proofs.Admitting.{none_unadmitted, none_refused}
 use Rattle.stl.specs.Layout.{file_length, word, mesh_in, file_of}
 use Rattle.stl.specs.Answers.{Read, read_as, Written, written_as, served}
 use Rattle.stl.specs.Reading.{read_count, read_from, read_stl}
 use Rattle.stl.specs.Writing.{exact_triangle, first_inexact, write_count, write_stl}
-use Rattle.stl.proofs.Exact.{all_exact}
+use Rattle.stl.proofs.Exact.{all_exact, passed_exact}
 
 no_refusal : (number at : ℕ) → numbered number at ≡ none → ⊥
 no_refusal number at e = let z : ◌≡◌ {A = ℕ} 0 1 = cc in omega arith
@@ -28,7 +28,7 @@ pub record WasRead (file : List ℕ) (triangles : List Float) (materials : List 
   pub few : n ≤ most_triangles
   pub ample : 12 * n ≤ length triangles
   pub roomy : n ≤ length materials
-  pub fine : first_refused (mesh_in file 84 n) 0 n ≡ Nothing
+  pub fine : first_refused (mesh_in file 84 n) 0 n ≡ None
   pub numbers : x ≡ mesh_in file 84 n ++ drop (12 * n) triangles
   pub zeros : y ≡ replicate n 0 ++ drop n materials
 
@@ -75,12 +75,12 @@ module _ (mesh : List Float) (file : List ℕ) (b : ℕ) (out : List ℕ) where
       let q = p.0 in
       let same : file_length n ≡ b = ap (λ (o : Written). o.answer.count) p.1 in
       let fine = none_unadmitted (first_refused mesh 0 n) q.1.1.0 in
-      let beyond : n ≤ first_inexact mesh 0 n = ltb-false (first_inexact mesh 0 n) n q.1.1.1.0 in
+      let single = passed_exact (first_inexact mesh 0 n) q.1.1.1.0 in
       record {
         twelves = eqb-true (length mesh % 12) 0 (not-false (eqb (length mesh % 12) 0) q.0);
         few = ltb-false most_triangles n q.1.0;
         fit = λ j h. none_refused mesh n 0 j fine (omega arith) (omega (arith, h));
-        exact = λ j h. all_exact mesh n 0 (omega (arith, beyond)) j (omega arith) (omega (arith, h));
+        exact = λ j h. all_exact mesh n 0 j single (omega arith) (omega (arith, h));
         bytes = same;
         roomy = omega (arith, same, ltb-false (length file) (file_length n) q.1.1.1.1.0);
         holds = sym (ap (λ (o : Written). o.file) p.1) ∙ ap (λ (k : ℕ). file_of mesh n ++ drop k file) same;

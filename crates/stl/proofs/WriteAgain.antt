@@ -1,5 +1,6 @@
 -- What reading gives is a mesh of admitted triangles whose numbers are exactly binary32s; so it can be built and written, and written it is the file with its header
 -- and attributes zeroed. Assumes nothing.
+use Rattle.std.specs.Prelude.{None}
 use mathlib.Core.Path.{◌≡◌, refl, sym, ap, ◌∙◌, subst}
 use Prim.Native.Nat.{ℕ, ◌+◌, ◌*◌, ◌/◌, ◌%◌, ◌≤◌, ◌<◌}
 use native.Mathlib.Nat.{add_assoc, add-zero}
@@ -19,7 +20,6 @@ use Rattle.float.specs.Number.{two, two_to_40}
 use Rattle.float.specs.Single.{exactly32}
 use Rattle.aabb.specs.Vector.{all}
 use Rattle.triangle.specs.declared.Triangle.{Triangle}
-use Rattle.triangle.specs.declared.Unadmitted.TheVariants.{Nothing}
 use Rattle.triangle.specs.Mesh.{triangle_at, first_refused}
 use Rattle.stl.specs.Layout.{file_length, word, bytes_of, widened, narrowed, vector_in, triangle_in, vector_bytes, record_of, mesh_in, records_of, file_of}
 use Rattle.stl.specs.Answers.{read_as, written_as, served}
@@ -55,7 +55,7 @@ module _ (file : List ℕ) (triangles : List Float) (materials : List ℕ) (n : 
   pub few_read : triangle_count mesh ≤ most_triangles
   few_read = omega (arith, count_read, seen.few)
 
-  pub fine_read : first_refused mesh 0 (triangle_count mesh) ≡ Nothing
+  pub fine_read : first_refused mesh 0 (triangle_count mesh) ≡ None
   fine_read = ap (λ (k : ℕ). first_refused mesh 0 k) count_read ∙ seen.fine
 
 -- ---- a number of a file that is no NaN
@@ -175,8 +175,8 @@ module _ (file : List ℕ) (triangles : List Float) (materials : List ℕ) (n : 
   exact_each : (j : ℕ) → j < n → T (exact_triangle (triangle_at kept j))
   exact_each j l = subst (λ (t : Triangle). T (exact_triangle t)) (sym (own_triangle file 84 n j l)) (read_exact file (84 + 50 * j) (twelve j l))
 
-  exact_all : first_inexact kept 0 (triangle_count kept) ≡ triangle_count kept
-  exact_all = none_inexact kept (triangle_count kept) 0 (λ j p q. exact_each j (omega (arith, q, count_read file triangles materials n x y done))) ∙ omega arith
+  exact_all : first_inexact kept 0 (triangle_count kept) ≡ None
+  exact_all = none_inexact kept (triangle_count kept) 0 (λ j p q. exact_each j (omega (arith, q, count_read file triangles materials n x y done)))
 
   records_are : records_of kept n ≡ records (bare_record file) n
   unfolding records_of bare_record
@@ -196,6 +196,6 @@ module _ (file : List ℕ) (triangles : List Float) (materials : List ℕ) (n : 
       ap (λ (m : List Float). write_stl m room) (mesh_read file triangles materials n x y done)
       ∙ sym
       (ap (λ (k : ℕ). written_as (served k) (zeroed file n ++ drop (file_length n) room)) whole
-      ∙ is_written kept room (twelves_read file triangles materials n x y done) (few_read file triangles materials n x y done) Nothing (sym (fine_read file triangles materials n x y done)) refl (triangle_count kept) (sym exact_all)
-      (omega arith) _ (subst (λ (k : ℕ). k ≤ length room) whole roomy)
+      ∙ is_written kept room (twelves_read file triangles materials n x y done) (few_read file triangles materials n x y done) None (sym (fine_read file triangles materials n x y done)) refl None (sym exact_all) refl
+      _ (subst (λ (k : ℕ). k ≤ length room) whole roomy)
       (ap (λ (z : List ℕ). z ++ drop (file_length n) room) (sym file_is ∙ ap (λ (k : ℕ). file_of kept k) (sym count)) ∙ ap (λ (k : ℕ). file_of kept (triangle_count kept) ++ drop k room) whole))

@@ -1,8 +1,8 @@
 -- What a reading and a writing answer: the rules' number and values for every case, and what the lent room holds at the end (rules L4, L5). Definitions only.
-use Rattle.std.specs.Prelude.{ℕ, List, Float}
+use Rattle.std.specs.Prelude.{ℕ, List, Float, Result, Ok, Err}
 use Rattle.lent.specs.Ladder.{Refusal, none, numbered}
-use Rattle.stl.specs.declared.Answer.{Answer}
-use Rattle.stl.specs.declared.Answer.TheVariants.{Done, Refused}
+use Rattle.lent.specs.declared.refusal.Refused.{Refused}
+use Rattle.lent.specs.Refusals.{number}
 
 -- the refusal if there is one, and how many triangles were read, or bytes written
 pub record Told : Type 0 where
@@ -16,9 +16,9 @@ abbrev pub refused : ℕ → ℕ → Told
 refused number at = record { refusal = numbered number at; count = 0 }
 
 -- Its answer is one of: how many, a refusal
-unfoldable pub told : Answer → Told
-told (Done count) = served count
-told (Refused number at) = refused number at
+unfoldable pub told : Result ℕ Refused → Told
+told (Ok count) = served count
+told (Err r) = refused (number r.reason) r.at
 
 -- of a reading, with the triangle room and the material room
 pub record Read : Type 0 where

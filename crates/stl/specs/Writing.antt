@@ -1,6 +1,7 @@
 -- Writing, on every input (rule L5). Definitions only.
-use Rattle.std.specs.Prelude.{ℕ, zero, suc, Bool, cond, ◌&&◌, List, [], ◌∷◌, ◌++◌, ltb, length, drop, Float}
+use Rattle.std.specs.Prelude.{ℕ, Bool, true, false, not, ◌&&◌, List, [], ◌∷◌, ◌++◌, ltb, length, drop, Float, Option, Some, None}
 use Rattle.lent.specs.Ladder.{Check, check, unless, triangle_count, ragged, crowded}
+use Rattle.lent.specs.Lowest.{lowest}
 use Rattle.float.specs.Single.{exactly32}
 use Rattle.aabb.specs.Vector.{all}
 use Rattle.triangle.specs.declared.Triangle.{Triangle}
@@ -12,14 +13,17 @@ use Rattle.stl.specs.Answers.{Written, written_as, served, refused}
 unfoldable pub exact_triangle : Triangle → Bool
 exact_triangle t = all exactly32 t.v0 && (all exactly32 t.v1 && (all exactly32 t.v2 && all exactly32 t.normal))
 
--- the lowest of k triangle numbers from i on whose triangle has another number, or i + k
-unfoldable pub first_inexact : List Float → ℕ → ℕ → ℕ
-first_inexact mesh i zero = i
-first_inexact mesh i (suc k) = cond (exact_triangle (triangle_at mesh i)) (first_inexact mesh (suc i) k) i
+-- Refusal 17: the lowest of k triangle numbers from i on whose triangle has another number
+abbrev pub inexact_at : List Float → ℕ → Bool
+inexact_at mesh i = not (exact_triangle (triangle_at mesh i))
 
--- Refusal 17, of n triangles
-abbrev pub inexact : List Float → ℕ → Check
-inexact mesh n = check (ltb (first_inexact mesh 0 n) n) 17 (first_inexact mesh 0 n)
+unfoldable pub first_inexact : List Float → ℕ → ℕ → Option ℕ
+first_inexact mesh i k = lowest (inexact_at mesh) i k
+
+-- check 17, with the lowest number
+unfoldable pub inexact : Option ℕ → Check
+inexact (Some i) = check true 17 i
+inexact None = check false 17 0
 
 -- Rule L5: the file of a mesh of n triangles, into the lent room; room beyond it stays. Refused, and nothing written: 1, 2, 5, 17, and 16 room too short
 unfoldable pub write_count : List Float → ℕ → List ℕ → Written
@@ -28,7 +32,7 @@ write_count mesh n file =
     (ragged mesh
     ∷ crowded mesh
     ∷ unadmitted (first_refused mesh 0 n)
-    ∷ inexact mesh n
+    ∷ inexact (first_inexact mesh 0 n)
     ∷ check (ltb (length file) (file_length n)) 16 0
     ∷ [])
     (λ number at. written_as (refused number at) file)

@@ -11,91 +11,83 @@ ghost use Rattle.stl.specs.Answers.{told, read_as, written_as};
 ghost use Rattle.stl.specs.Reading.{read_from, read_stl};
 ghost use Rattle.stl.specs.Writing.{write_stl};
 
-use triangle::Unadmitted;
+use lent::{Reason, Refused};
 
 // How long the header is.
 const HEADER: usize = 80;
 
-// What a reading or a writing answers: how many triangles were read, or bytes written; or the refusal's number and its `at`.
-#[derive(Clone, Copy)]
-pub enum Answer {
-    Done(usize),
-    Refused { number: u32, at: usize },
-}
-
-// A reader: it keeps the lent file and its place.
+// A reader: it keeps the lent file and its place, the form that the customer asked for (docs/DECISIONS.md, "The forms by place").
 #[derive(Clone, Copy)]
 struct StlReader<'a> {
     pub file: &'a [u8],
     pub at: usize,
 }
 
-// A reader of a file, at its start.
-fn open<'a>(file: &'a [u8]) -> StlReader<'a>
-    ensures { (result.file ≡ file.entry) × (result.at ≡ 0) }
-{
-    StlReader { file, at: 0 }
-}
-
-// The reader of the same file at another place.
-fn moved<'a>(reader: StlReader<'a>, at: usize) -> StlReader<'a>
-    ensures { (result.file ≡ reader.entry.file) × (result.at ≡ at) }
-{
-    StlReader {
-        file: reader.file,
-        at,
+impl<'a> StlReader<'a> {
+    // A reader of a file, at its start.
+    fn open(file: &'a [u8]) -> StlReader<'a>
+        ensures { (result.file ≡ file.entry) × (result.at ≡ 0) }
+    {
+        StlReader { file, at: 0 }
     }
-}
 
-// The count at the reader's place and the triangles behind it, into the lent rooms, as `read` does.
-fn read_on<'a, 'b, 'c>(
-    reader: StlReader<'a>,
-    triangles: &'b mut [f64],
-    materials: &'c mut [u32],
-) -> Answer
-    ensures { read_as (told result) triangles.new materials.new ≡ read_from reader.entry.file.now reader.entry.at triangles.old materials.old }
-{
-    reading::read_from(reader.file, reader.at, triangles, materials)
+    // The reader of the same file at another place.
+    fn moved(self, at: usize) -> StlReader<'a>
+        ensures { (result.file ≡ self.entry.file) × (result.at ≡ at) }
+    {
+        StlReader {
+            file: self.file,
+            at,
+        }
+    }
+
+    // The count at the reader's place and the triangles behind it, into the lent rooms, as `read` does.
+    fn read_on(self, triangles: &mut [f64], materials: &mut [u32]) -> Result<usize, Refused>
+        ensures { read_as (told result) triangles.new materials.new ≡ read_from self.entry.file.now self.entry.at triangles.old materials.old }
+    {
+        reading::read_from(self.file, self.at, triangles, materials)
+    }
 }
 
 // Reads the triangles of a file into the lent room, twelve numbers each, and a 0 for each into the material room; answers how many. Room beyond them stays. Header
 // and attributes are not looked at. Refused, in this order, and then nothing is written: 15 the file is shorter than 84 bytes, or its length is not 84 + 50 times
 // its count; 2 more than 65,536 triangles (at: how many); 16 the room is too short, for the triangles or for the materials; 5 a triangle isn't admitted (at: the
 // lowest number).
-pub fn read(file: &[u8], triangles: &mut [f64], materials: &mut [u32]) -> Answer
+#[tactic(auto, unfolding(crate::specs::Reading::read_stl))]
+pub fn read(file: &[u8], triangles: &mut [f64], materials: &mut [u32]) -> Result<usize, Refused>
     ensures { read_as (told result) triangles.new materials.new ≡ read_stl file.now triangles.old materials.old }
 {
-    read_on(moved(open(file), HEADER), triangles, materials)
+    StlReader::open(file)
+        .moved(HEADER)
+        .read_on(triangles, materials)
 }
 
 // Writes the file of a mesh into the lent room, with a zero header and zero attributes; answers how many bytes. Room beyond them stays. Refused, in this order, and
 // then nothing is written: 1 the numbers are not in twelves; 2 more than 65,536 triangles (at: how many); 5 a triangle isn't admitted (at: the lowest number);
 // 17 a number is not exactly a binary32 (at: the lowest such triangle); 16 the room is shorter than 84 + 50 bytes a triangle.
-pub fn write(triangles: &[f64], file: &mut [u8]) -> Answer
+pub fn write(triangles: &[f64], file: &mut [u8]) -> Result<usize, Refused>
     ensures { written_as (told result) file.new ≡ write_stl triangles.now file.old }
 {
-    if triangles.len() % 12 != 0 {
-        return Answer::Refused { number: 1, at: 0 };
+    let n = triangle::count(triangles)?;
+    if let Some(at) = triangle::first_refused(triangles, n) {
+        return Err(Refused {
+            reason: Reason::BadTriangle,
+            at,
+        });
     }
-    let n = triangles.len() / 12;
-    if lent::MOST_TRIANGLES < n {
-        return Answer::Refused { number: 2, at: n };
-    }
-    let bad = triangle::first_refused(triangles, n);
-    if let Unadmitted::At(i) = bad {
-        return Answer::Refused { number: 5, at: i };
-    }
-    let inexact = writing::first_inexact(triangles, n);
-    if inexact < n {
-        return Answer::Refused {
-            number: 17,
-            at: inexact,
-        };
+    if let Some(at) = writing::first_inexact(triangles, n) {
+        return Err(Refused {
+            reason: Reason::Inexact,
+            at,
+        });
     }
     let whole = 84 + 50 * n;
     if file.len() < whole {
-        return Answer::Refused { number: 16, at: 0 };
+        return Err(Refused {
+            reason: Reason::ShortRoom,
+            at: 0,
+        });
     }
     writing::put_file(triangles, &mut file[0..whole], n);
-    Answer::Done(whole)
+    Ok(whole)
 }

@@ -1,5 +1,5 @@
 // The work of a writing, on lent room that is just as long as what is written.
-ghost use Rattle.std.specs.Prelude.{◌≡◌, ℕ, ◌+◌, ◌*◌, ◌%◌, ◌<◌, ◌≤◌, T, length, replicate};
+ghost use Rattle.std.specs.Prelude.{◌≡◌, ℕ, ◌+◌, ◌*◌, ◌<◌, ◌≤◌, T, length};
 ghost use Rattle.lent.specs.Limits.{most_triangles};
 ghost use Rattle.float.specs.Single.{exactly32};
 ghost use Rattle.aabb.specs.Vector.{all};
@@ -10,46 +10,24 @@ ghost use Rattle.stl.specs.Writing.{exact_triangle, first_inexact};
 use aabb::Vec3;
 use triangle::Triangle;
 
-// The lowest of n triangles with a number that isn't exactly a binary32, or n.
-pub fn first_inexact(mesh: &[f64], n: usize) -> usize
+// The lowest of n triangles with a number that isn't exactly a binary32.
+pub fn first_inexact(mesh: &[f64], n: usize) -> Option<usize>
     ensures { result ≡ first_inexact mesh.now 0 n }
 {
-    let mut i: usize = 0;
-    while i < n {
-        if exact_triangle(Triangle::read(mesh, i)) {
-            i += 1;
-        } else {
-            return i;
-        }
-    }
-    n
+    (0..n).find(|i| !exact_triangle(Triangle::read(mesh, *i)))
 }
 
+#[tactic(auto, unfolding(crate::specs::Writing::exact_triangle))]
 fn exact_triangle(t: Triangle) -> bool
     ensures { result ≡ exact_triangle t }
 {
-    if exact_vector(t.v0) {
-        if exact_vector(t.v1) {
-            if exact_vector(t.v2) {
-                return exact_vector(t.normal);
-            }
-            return false;
-        }
-        return false;
-    }
-    false
+    exact_vector(t.v0) && exact_vector(t.v1) && exact_vector(t.v2) && exact_vector(t.normal)
 }
 
 fn exact_vector(a: Vec3) -> bool
     ensures { result ≡ all exactly32 a }
 {
-    if float::is_single(a.x) {
-        if float::is_single(a.y) {
-            return float::is_single(a.z);
-        }
-        return false;
-    }
-    false
+    float::is_single(a.x) && float::is_single(a.y) && float::is_single(a.z)
 }
 
 // A zero header, the count, the triangles.
@@ -57,34 +35,18 @@ pub fn put_file(mesh: &[f64], out: &mut [u8], n: usize)
     requires { (n ≤ most_triangles) × (length out.old ≡ 84 + 50 * n) × ((j : ℕ) → j < n → T (exact_triangle (triangle_at mesh.now j))) }
     ensures { out.new ≡ file_of mesh.now n }
 {
-    let whole = 84 + 50 * n;
-    clear(&mut out[0..80]);
+    out[0..80].fill(0);
     put_word(&mut out[80..84], n as u32);
-    put_triangles(mesh, &mut out[84..whole], n);
+    put_triangles(mesh, &mut out[84..84 + 50 * n], n);
 }
 
-fn clear(out: &mut [u8])
-    ensures { out.new ≡ replicate (length out.old) 0 }
-{
-    let mut i: usize = 0;
-    while i < out.len() {
-        out[i] = 0;
-        i += 1;
-    }
-}
-
-// The first n triangles of a mesh, each exactly of binary32 numbers.
+// The first n triangles of a mesh, each exactly of binary32 numbers. By places, since after `chunks_exact_mut` a proof knows only how long a slice is.
 fn put_triangles(mesh: &[f64], out: &mut [u8], n: usize)
     requires { (length out.old ≡ 50 * n) × ((j : ℕ) → j < n → T (exact_triangle (triangle_at mesh.now j))) }
     ensures { out.new ≡ records_of mesh.now n }
 {
-    let mut i: usize = 0;
-    while i < n {
-        let from = 50 * i;
-        let to = from + 50;
-        let t = Triangle::read(mesh, i);
-        put_triangle(&mut out[from..to], t);
-        i += 1;
+    for i in 0..n {
+        put_triangle(&mut out[50 * i..50 * i + 50], Triangle::read(mesh, i));
     }
 }
 
@@ -101,6 +63,7 @@ fn put_triangle(out: &mut [u8], t: Triangle)
     out[49] = 0;
 }
 
+#[tactic(auto, using(crate::proofs::Placing::vector_is))]
 fn put_vector(out: &mut [u8], a: Vec3)
     requires { (length out.old ≡ 12) × T (all exactly32 a) }
     ensures { out.new ≡ vector_bytes a }
@@ -110,6 +73,7 @@ fn put_vector(out: &mut [u8], a: Vec3)
     put_number(&mut out[8..12], a.z);
 }
 
+#[tactic(auto, unfolding(float::specs::Single::exactly32, crate::specs::Layout::narrowed))]
 fn put_number(out: &mut [u8], x: f64)
     requires { (length out.old ≡ 4) × T (exactly32 x) }
     ensures { out.new ≡ narrowed x }
@@ -118,18 +82,10 @@ fn put_number(out: &mut [u8], x: f64)
 }
 
 // Four little-endian bytes.
+#[tactic(auto, unfolding(crate::specs::Layout::bytes_of))]
 fn put_word(out: &mut [u8], w: u32)
     requires { length out.old ≡ 4 }
     ensures { out.new ≡ bytes_of w }
 {
-    out[0] = lowest(w);
-    out[1] = lowest(w / 256);
-    out[2] = lowest(w / 65536);
-    out[3] = lowest(w / 16777216);
-}
-
-fn lowest(w: u32) -> u8
-    ensures { result ≡ w % 256 }
-{
-    (w % 256) as u8
+    out.copy_from_slice(&w.to_le_bytes());
 }

@@ -1,8 +1,8 @@
 mod Matrices
+mod Corners
 mod Searching
 pub mod ProxyRoom
 mod Raising
 pub mod Sizes
 pub mod Topping
-mod Sightings
-mod AtPlacement
+mod LeafEntries

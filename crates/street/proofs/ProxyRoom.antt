@@ -1,10 +1,11 @@
 -- The proxy room, placement by placement: what is written, then what was there; and triangle j of what is written is placement j's proxy. Assumes nothing.
 use mathlib.Core.Path.{◌≡◌, refl, sym, ap, ◌∙◌}
-use mathlib.Core.List.{List, [], ◌++◌, append-nil}
+use mathlib.Core.List.{List, [], ◌++◌, append_assoc, append-nil}
 use Prim.Native.Nat.{ℕ, ◌+◌, ◌*◌, ◌≤◌, ◌<◌}
 use native.Mathlib.Omega.{arith}
-use lib.ListN.{length, get_or, drop}
-use lib.Seq.{sets}
+use lib.ListN.{length, get_or, take, drop}
+use lib.Seq.{sets, sets-eq, drop-drop}
+use borrow.Rule.Slice.PartMut.{put_mid}
 use lib.Ieee.{Float, nan}
 use Rattle.lent.specs.Flat.{put, records}
 use Rattle.lent.proofs.Flat.{fill_more, records_length, records_at}
@@ -14,6 +15,11 @@ use Rattle.triangle.specs.declared.Triangle.{Triangle}
 use Rattle.triangle.specs.Mesh.{triangle_at, triangle_numbers}
 use Rattle.street.specs.Placing.{world_at, proxy_of}
 use Rattle.street.specs.Making.{proxy_numbers}
+
+-- what is copied into a part of the room is written number by number
+pub copied : (room values new : List Float) (at k : ℕ) → new ≡ values → k ≡ length values → at + length values ≤ length room → put_mid at k room new ≡ sets room at values
+copied room values new at k e n fits =
+    rw (e, n, drop-drop (length values) at room, sets-eq values room at fits) (sym (append_assoc (take at room) values (drop (at + length values) room)))
 
 module _ (matrices : List Float) (root : Aabb) where
   abbrev numbers : ℕ → List Float

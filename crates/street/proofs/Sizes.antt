@@ -1,5 +1,6 @@
 -- A point through a good matrix is at most 2^63 in size where it was within 2^40, and a direction at most 2^83 where it was within 2: so nothing overflows, the world box
 -- of a bounded box is finite, its proxy is admitted where it is bounded, and a local ray is admitted just where its origin is within 2^40. Assumes nothing.
+use Rattle.std.specs.Prelude.{Some, None}
 use mathlib.Core.Path.{◌≡◌, refl, sym, subst, ◌∙◌}
 use Prim.Native.Nat.{ℕ, zero, suc, ◌+◌, ◌*◌, ◌^◌, ◌≤◌}
 use native.Mathlib.Nat.{zero-lt-suc, mul-pos}
@@ -32,7 +33,6 @@ use Rattle.triangle.proofs.Finite.{AllAtMost, dot_most, forty}
 use Rattle.triangle.proofs.UnitNormal.{dot_below, unit_within, new_admitted}
 use Rattle.street.specs.declared.rows.Row.{Row}
 use Rattle.street.specs.declared.rows.Matrix.{Matrix}
-use Rattle.street.specs.declared.rows.Local.TheVariants.{Cast, Skipped}
 use Rattle.street.specs.Rows.{two_to_20, small_row, good_matrix, against, through, point_by, direction_by, length_of, cast, local_ray}
 use Rattle.street.specs.Placing.{corners, grown_by, world_box, proxy_of}
 use Rattle.street.specs.Served.{finite_box}
@@ -234,14 +234,14 @@ root_positive (fin s zero e) f h = above_nought (fin s zero e) tt h
 root_positive (fin true (suc m) e) f h = absurd (unfold lt in (rw trillionth_is at h))
 root_positive (fin false (suc m) e) f h = lt→ltb 0 (suc m) (omega arith)
 
-cast_admitted : (o d : Vec3) (l : Ray) → AllAtMost 83 d → cast o d ≡ Cast l → admitted_ray l ≡ all_within two_to_40 l.origin
+cast_admitted : (o d : Vec3) (l : Ray) → AllAtMost 83 d → cast o d ≡ Some l → admitted_ray l ≡ all_within two_to_40 l.origin
 unfolding cast
 cast_admitted o d l sized = go (lt trillionth (length_of d)) refl
   where
     whole : T (lt trillionth (length_of d)) → T (all_within two (divided d (length_of d)))
     whole h = unfold length_of in unit_within d sized (root_positive (dot d d) (power_finite (dot d d) 168 (dot_below d sized)) (unfold length_of in h))
 
-    same : (k : Ray) → Cast k ≡ Cast l → k ≡ l
+    same : (k : Ray) → Some k ≡ Some l → k ≡ l
     same k e = cc
 
     and_yes : (a b : Bool) → T b → (a && b) ≡ a
@@ -249,14 +249,14 @@ cast_admitted o d l sized = go (lt trillionth (length_of d)) refl
     and_yes true false h = absurd h
     and_yes false b h = refl
 
-    go : (t : Bool) → lt trillionth (length_of d) ≡ t → cond t (Cast (ray_from o (divided d (length_of d)))) Skipped ≡ Cast l → admitted_ray l ≡ all_within two_to_40 l.origin
+    go : (t : Bool) → lt trillionth (length_of d) ≡ t → cond t (Some (ray_from o (divided d (length_of d)))) None ≡ Some l → admitted_ray l ≡ all_within two_to_40 l.origin
     go true e c =
         subst (λ (z : Ray). admitted_ray z ≡ all_within two_to_40 z.origin) (same (ray_from o (divided d (length_of d))) c)
         (unfold admitted_ray in and_yes (all_within two_to_40 o) (all_within two (divided d (length_of d))) (whole (true_is (lt trillionth (length_of d)) e)))
-    go false e c = absurd (let z : ◌≡◌ {A = ℕ} 0 1 = cc in omega arith)
+    go false e c = cc
 
 -- through a good inverse the local ray of an admitted ray is admitted just where its origin is within 2^40
-pub local_admitted : (inverse : Matrix) (r l : Ray) → T (good_matrix inverse) → T (admitted_ray r) → local_ray inverse r ≡ Cast l → admitted_ray l ≡ all_within two_to_40 l.origin
+pub local_admitted : (inverse : Matrix) (r l : Ray) → T (good_matrix inverse) → T (admitted_ray r) → local_ray inverse r ≡ Some l → admitted_ray l ≡ all_within two_to_40 l.origin
 unfolding local_ray admitted_ray
 local_admitted inverse r l g h e =
     cast_admitted (point_by inverse r.origin) (direction_by inverse r.direction) l (direction_most inverse g r.direction (and_r (all_within two_to_40 r.origin) (all_within two r.direction) h)) e

@@ -1,4 +1,5 @@
 -- Where no check of making's ladder fails, every proxy is admitted and the rooms suffice: so the build over them is the tree, or 6. Assumes nothing.
+use Rattle.std.specs.Prelude.{Option as Found, Some as At, None}
 use mathlib.Core.Path.{◌≡◌, refl, sym, ap, ◌∙◌, subst⁻¹}
 use Prim.Native.Nat.{ℕ, ◌*◌, ◌/◌, ◌%◌, ◌≤◌, ◌<◌}
 use native.Mathlib.Omega.{arith}
@@ -24,8 +25,6 @@ use Rattle.triangle.proofs.Admitting.{all_admitted, none_bad}
 use Rattle.builder.specs.Reply.{refused_reply}
 use Rattle.builder.specs.Tree.{Grown, grow}
 use Rattle.builder.specs.Build.{Outcome as Build, outcome as top, built, finished, room}
-use Rattle.street.specs.declared.placements.Lowest.{Lowest}
-use Rattle.street.specs.declared.placements.Lowest.TheVariants.{At, Nothing as None}
 use Rattle.street.specs.Rows.{matrix_at, good_matrix}
 use Rattle.street.specs.Placing.{world_at, proxy_of}
 use Rattle.street.specs.Making.{placement_count, good_at, near_at, lowest, misplaced, proxies, Outcome, outcome, raised, placement_checks, room_checks, made_over}
@@ -77,7 +76,7 @@ failed_number (c ∷ cs) number at e = go c.fails e (λ f. failed_number cs numb
     go true f rest = inl (same c.number c.at f)
     go false f rest = inr (rest f)
 
-misplaced_number : (k : ℕ) (f : Lowest) → (misplaced k f).number ≡ k
+misplaced_number : (k : ℕ) (f : Found ℕ) → (misplaced k f).number ≡ k
 unfolding misplaced
 misplaced_number k (At i) = refl
 misplaced_number k None = refl

@@ -1,18 +1,15 @@
 -- What making a street answers and leaves in every lent list, on every input (rules H1, H2, H7). Definitions only.
-use Rattle.std.specs.Prelude.{ℕ, zero, suc, ◌*◌, ◌/◌, ◌%◌, Bool, true, false, not, ◌&&◌, List, [], ◌∷◌, ◌++◌, length, drop, replicate, ltb, eqb, Float}
+use Rattle.std.specs.Prelude.{ℕ, ◌*◌, ◌/◌, ◌%◌, Bool, true, false, not, ◌&&◌, List, [], ◌∷◌, ◌++◌, length, drop, replicate, ltb, eqb, Option, Some, None, Float}
 use Rattle.lent.specs.Limits.{most_placements}
 use Rattle.lent.specs.Ladder.{Refusal, none, numbered, Check, check, unless}
 use Rattle.lent.specs.Flat.{records}
+use Rattle.lent.specs.Lowest.{lowest as first}
 use Rattle.float.specs.Number.{nought}
 use Rattle.aabb.specs.declared.bounds.Aabb.{Aabb}
 use Rattle.aabb.specs.Bounds.{bounded, box_at}
 use Rattle.triangle.specs.Mesh.{triangle_numbers}
 use Rattle.builder.specs.Reply.{refused_reply}
 use Rattle.builder.specs.Build.{Outcome as Build, outcome as top, built, room}
-use Rattle.street.specs.declared.placements.Lowest.{Lowest}
-use Rattle.street.specs.declared.placements.Lowest.TheVariants.{At, Nothing}
-use Rattle.street.specs.declared.placements.Standing.{Standing}
-use Rattle.street.specs.declared.placements.Standing.TheVariants.{Fine, Refused}
 use Rattle.street.specs.Rows.{matrix_at, good_matrix}
 use Rattle.street.specs.Placing.{world_at, proxy_of}
 
@@ -26,14 +23,13 @@ unfoldable pub good_at : List Float → List Float → ℕ → Bool
 good_at matrices inverses i = good_matrix (matrix_at matrices i) && good_matrix (matrix_at inverses i)
 
 -- the lowest of k placements from i on that does not stand a test
-unfoldable pub lowest : (ℕ → Bool) → ℕ → ℕ → Lowest
-lowest stands i zero = Nothing
-lowest stands i (suc k) = elim (stands i) [ true ↦ lowest stands (suc i) k | false ↦ At i ]
+abbrev pub lowest : (ℕ → Bool) → ℕ → ℕ → Option ℕ
+lowest stands i k = first (λ p. not (stands p)) i k
 
 -- a check that names that placement
-unfoldable pub misplaced : ℕ → Lowest → Check
-misplaced number (At i) = check true number i
-misplaced number Nothing = check false number 0
+unfoldable pub misplaced : ℕ → Option ℕ → Check
+misplaced number (Some i) = check true number i
+misplaced number None = check false number 0
 
 -- Refusals 23 and 24, with which making and walking begin: the lists alike in length, in sixteens, not too many; every matrix good
 abbrev pub placement_checks : List Float → List Float → List Check
@@ -43,11 +39,6 @@ placement_checks matrices inverses =
     ∷ check (ltb most_placements (placement_count matrices)) 23 0
     ∷ misplaced 24 (lowest (good_at matrices inverses) 0 (placement_count matrices))
     ∷ []
-
--- what the code says of the two: fine, or the refusal
-unfoldable pub standing : Standing → Refusal
-standing Fine = none
-standing (Refused number at) = numbered number at
 
 -- ---- the top tree
 -- Refusal 26: whether the world box of placement i is finite and usable

@@ -1,5 +1,5 @@
 -- A matrix of four rows; points, directions and normals taken through it; the local ray (rules H1 to H4). Definitions only.
-use Rattle.std.specs.Prelude.{ℕ, ◌+◌, ◌*◌, Bool, ◌&&◌, cond, List, Float}
+use Rattle.std.specs.Prelude.{ℕ, ◌+◌, ◌*◌, Bool, ◌&&◌, cond, List, Option, Some, None, Float}
 use Rattle.std.specs.Float.{binary64}
 use Rattle.std.specs.Float.Ieee.{of_bits, add, mul, lt, eq}
 use Rattle.float.specs.Number.{nought, one, trillionth}
@@ -9,8 +9,6 @@ use Rattle.aabb.specs.declared.vector.Ray.{Ray}
 use Rattle.aabb.specs.Vector.{vec, dot, divided, along, within, all_within, all_equal, number_at, vector_at, ray_from}
 use Rattle.street.specs.declared.rows.Row.{Row}
 use Rattle.street.specs.declared.rows.Matrix.{Matrix}
-use Rattle.street.specs.declared.rows.Local.{Local}
-use Rattle.street.specs.declared.rows.Local.TheVariants.{Cast, Skipped}
 
 -- 2^20
 abbrev pub two_to_20 : Float
@@ -66,8 +64,8 @@ normal_by inverse n = vec (against (column_of inverse 0) n nought) (against (col
 unfoldable pub length_of : Vec3 → Float
 length_of a = root (dot a a)
 
-unfoldable pub cast : Vec3 → Vec3 → Local
-cast origin direction = cond (lt trillionth (length_of direction)) (Cast (ray_from origin (divided direction (length_of direction)))) Skipped
+unfoldable pub cast : Vec3 → Vec3 → Option Ray
+cast origin direction = cond (lt trillionth (length_of direction)) (Some (ray_from origin (divided direction (length_of direction)))) None
 
-unfoldable pub local_ray : Matrix → Ray → Local
+unfoldable pub local_ray : Matrix → Ray → Option Ray
 local_ray inverse r = cast (point_by inverse r.origin) (direction_by inverse r.direction)

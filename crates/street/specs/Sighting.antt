@@ -1,5 +1,5 @@
 -- A house's hit taken to the world, and which hit replaces which (rules H9 and H10). Definitions only.
-use Rattle.std.specs.Prelude.{ℕ, Bool, cond, ◌&&◌, ◌||◌, ltb, Float}
+use Rattle.std.specs.Prelude.{ℕ, Bool, cond, ◌&&◌, ◌||◌, ltb, Option, Some, None, Float}
 use Rattle.std.specs.Float.{binary64}
 use Rattle.std.specs.Float.Ieee.{of_bits, lt, eq}
 use Rattle.float.specs.Number.{nought}
@@ -9,8 +9,6 @@ use Rattle.aabb.specs.Vector.{minus, dot, divided}
 use Rattle.triangle.specs.declared.Hit.{Hit}
 use Rattle.street.specs.declared.rows.Matrix.{Matrix}
 use Rattle.street.specs.declared.sighting.Sight.{Sight}
-use Rattle.street.specs.declared.sighting.Seen.{Seen}
-use Rattle.street.specs.declared.sighting.Seen.TheVariants.{One, None}
 use Rattle.street.specs.Rows.{point_by, normal_by, length_of}
 
 -- 1e-5
@@ -40,17 +38,17 @@ sight_of matrix inverse r h k = record {
 }
 
 -- Rule H9: it counts where t is above 1e-5
-unfoldable pub counted : Sight → Seen
-counted s = cond (lt hundred_thousandth s.t) (One s) None
+unfoldable pub counted : Sight → Option Sight
+counted s = cond (lt hundred_thousandth s.t) (Some s) None
 
-unfoldable pub world_hit : Matrix → Matrix → Ray → Hit → ℕ → Seen
+unfoldable pub world_hit : Matrix → Matrix → Ray → Hit → ℕ → Option Sight
 world_hit matrix inverse r h k = counted (sight_of matrix inverse r h k)
 
 -- Rule H10: a smaller t replaces the best, or an equal one of a lower placement
 unfoldable pub ahead : Sight → Sight → Bool
 ahead new best = lt new.t best.t || (eq new.t best.t && ltb new.placement best.placement)
 
-unfoldable pub better : Seen → Seen → Seen
+unfoldable pub better : Option Sight → Option Sight → Option Sight
 better best None = best
-better None (One new) = One new
-better (One best) (One new) = One (cond (ahead new best) new best)
+better None (Some new) = Some new
+better (Some best) (Some new) = Some (cond (ahead new best) new best)

@@ -1,151 +1,99 @@
 // An entry of a leaf of the top tree: the placement that it names, with its local ray and its house's walk.
 ghost use Rattle.std.specs.Prelude.{◌≡◌, ◌+◌, ◌≤◌, ◌<◌, length};
-ghost use Rattle.tree.specs.Lent.{lent};
 ghost use Rattle.walk.specs.Steps.{entries};
-ghost use Rattle.street.specs.Walking.{street_of, at_placement, placement_entry};
+ghost use Rattle.street.specs.Walking.{at_placement, placement_entry};
 ghost use Rattle.street.specs.inner.Entries.{went, sighted, Sheltered};
 
-use crate::rows::{Local, Matrix};
+use crate::lists::Street;
+use crate::rows::Matrix;
 use crate::sighting;
-use crate::sighting::Seen;
+use crate::sighting::Sight;
 use aabb::Ray;
+use lent::{Reason, Refused};
 use triangle::Hit;
 use walk::Answer;
 
-// What is seen so far, or a refusal.
-#[derive(Clone, Copy)]
-pub enum Met {
-    Best(Seen),
-    Refused { number: u32, at: u64 },
-}
-
-// A leaf's entries, `count` of them from place `first` on, one after the other.
+// A leaf's entries, `count` of them from place `first` on, one after the other: what is seen so far, or a refusal.
+#[tactic(auto, unfolding(crate::specs::inner::Entries::went), using(crate::proofs::LeafEntries::entries_all, crate::proofs::LeafEntries::entries_over, crate::proofs::LeafEntries::entries_go, crate::proofs::LeafEntries::entries_stop))]
 pub fn leaf(
-    matrices: &[f64],
-    inverses: &[f64],
-    triangles: &[f64],
-    materials: &[u32],
-    house_index: &[u32],
-    house_boxes: &[f64],
-    house_links: &[u32],
+    street: &Street,
     index: &[u32],
     ray: Ray,
     first: usize,
     count: usize,
-    best: Seen,
-) -> Met
-    requires { (first + count ≤ length index.now) × Sheltered (lent triangles.now materials.now house_index.now house_boxes.now house_links.now) }
-    ensures { went result ≡ entries (placement_entry (street_of matrices.now inverses.now (lent triangles.now materials.now house_index.now house_boxes.now house_links.now)) index.now ray) count first best }
+    best: Option<Sight>,
+) -> Result<Option<Sight>, Refused>
+    requires { (first + count ≤ length index.now) × Sheltered street.now.house }
+    ensures { went result ≡ entries (placement_entry street.now index.now ray) count first best }
 {
-    let end = first + count;
-    let mut place = first;
     let mut found = best;
-    while place < end {
-        match at(
-            matrices,
-            inverses,
-            triangles,
-            materials,
-            house_index,
-            house_boxes,
-            house_links,
-            index,
-            ray,
-            place,
-            found,
-        ) {
-            Met::Refused { number, at } => {
-                return Met::Refused { number, at };
-            }
-            Met::Best(next) => {
-                found = next;
-                place += 1;
-            }
-        }
+    for place in first..first + count {
+        found = at(street, index, ray, place, found)?;
     }
-    Met::Best(found)
+    Ok(found)
 }
 
 // The entry at a place of the index list: 10 where it names no placement.
+#[tactic(auto, unfolding(crate::specs::Walking::placement_entry, crate::specs::inner::Entries::went))]
 fn at(
-    matrices: &[f64],
-    inverses: &[f64],
-    triangles: &[f64],
-    materials: &[u32],
-    house_index: &[u32],
-    house_boxes: &[f64],
-    house_links: &[u32],
+    street: &Street,
     index: &[u32],
     ray: Ray,
     place: usize,
-    best: Seen,
-) -> Met
-    requires { (place < length index.now) × Sheltered (lent triangles.now materials.now house_index.now house_boxes.now house_links.now) }
-    ensures { went result ≡ placement_entry (street_of matrices.now inverses.now (lent triangles.now materials.now house_index.now house_boxes.now house_links.now)) index.now ray place best }
+    best: Option<Sight>,
+) -> Result<Option<Sight>, Refused>
+    requires { (place < length index.now) × Sheltered street.now.house }
+    ensures { went result ≡ placement_entry street.now index.now ray place best }
 {
     let k = index[place];
-    if matrices.len() / 16 <= k as usize {
-        return Met::Refused {
-            number: 10,
-            at: place as u64,
-        };
+    if street.matrices.len() / 16 <= k as usize {
+        return Err(Refused {
+            reason: Reason::BadEntry,
+            at: place,
+        });
     }
-    placement(
-        matrices,
-        inverses,
-        triangles,
-        materials,
-        house_index,
-        house_boxes,
-        house_links,
-        ray,
-        k,
-        best,
-    )
+    placement(street, ray, k, best)
 }
 
 // Placement k, with the best so far, over a house whose lists were looked at.
+#[tactic(auto, unfolding(crate::specs::Walking::at_placement, crate::specs::Walking::with_local, crate::specs::Walking::with_told, crate::specs::Walking::with_found, walk::specs::Answer::told, crate::specs::inner::Entries::went, crate::specs::inner::Entries::sighted), using(walk::proofs::Entering::entered))]
 pub fn placement(
-    matrices: &[f64],
-    inverses: &[f64],
-    triangles: &[f64],
-    materials: &[u32],
-    index: &[u32],
-    boxes: &[f64],
-    links: &[u32],
+    street: &Street,
     ray: Ray,
     k: u32,
-    best: Seen,
-) -> Met
-    requires { Sheltered (lent triangles.now materials.now index.now boxes.now links.now) }
-    ensures { went result ≡ at_placement (street_of matrices.now inverses.now (lent triangles.now materials.now index.now boxes.now links.now)) ray k best }
+    best: Option<Sight>,
+) -> Result<Option<Sight>, Refused>
+    requires { Sheltered street.now.house }
+    ensures { went result ≡ at_placement street.now ray k best }
 {
-    let local = Matrix::read(inverses, k as usize).transform_ray(ray);
-    let Local::Cast(l) = local else {
-        return Met::Best(best);
+    let Some(local) = Matrix::read(street.inverses, k as usize).transform_ray(ray) else {
+        return Ok(best);
     };
-    if !l.admitted() {
-        return Met::Refused {
-            number: 7,
-            at: k as u64,
-        };
+    if !local.admitted() {
+        return Err(Refused {
+            reason: Reason::BadRay,
+            at: k as usize,
+        });
     }
-    match walk::walk(triangles, materials, index, boxes, links, l) {
-        Answer::Refused { number, at } => Met::Refused { number, at },
-        Answer::Missed {
-            boxes: _,
-            triangles: _,
-        } => Met::Best(best),
-        Answer::Struck {
-            hit,
-            boxes: _,
-            triangles: _,
-        } => Met::Best(found(matrices, inverses, ray, k, hit, best)),
+    match walk::walk(&street.house, local) {
+        Answer::Refused(refused) => Err(refused),
+        Answer::Missed { .. } => Ok(best),
+        Answer::Struck { hit, .. } => {
+            Ok(found(street.matrices, street.inverses, ray, k, hit, best))
+        }
     }
 }
 
 // The better of what was seen and the hit of placement k.
-fn found(matrices: &[f64], inverses: &[f64], ray: Ray, k: u32, hit: Hit, best: Seen) -> Seen
+#[tactic(auto, unfolding(crate::specs::inner::Entries::sighted))]
+fn found(
+    matrices: &[f64],
+    inverses: &[f64],
+    ray: Ray,
+    k: u32,
+    hit: Hit,
+    best: Option<Sight>,
+) -> Option<Sight>
     ensures { result ≡ sighted matrices.now inverses.now ray k hit best }
 {
     let matrix = Matrix::read(matrices, k as usize);

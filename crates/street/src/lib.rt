@@ -7,19 +7,19 @@ mod placing; // placing.rt: world boxes and proxies
 mod placements; // placements.rt: what is asked of the placements
 mod proxies; // proxies.rt: the proxies, written
 mod sighting; // sighting.rt: a hit in the world
+mod lists; // lists.rt: what a caller lends for a walk
 mod entry; // entry.rt: an entry of a leaf of the top tree
 
 ghost use Rattle.std.specs.Prelude.{◌≡◌, ◌*◌, ◌≤◌, length};
-ghost use Rattle.lent.specs.Limits.{most_placements};
 ghost use Rattle.builder.specs.Reply.{reply};
 ghost use Rattle.builder.specs.Build.{outcome as top};
 ghost use Rattle.street.specs.Making.{placement_count, proxies as proxies_of, outcome, raised, made};
 
 use aabb::Aabb;
 use builder::Built;
-use placements::{Lowest, Standing};
-pub use rows::{Local, Matrix, Row};
-pub use sighting::{Seen, Sight};
+use lent::{Reason, Refused};
+pub use rows::{Matrix, Row};
+pub use sighting::Sight;
 
 // The top tree of a street of m placements, each sixteen numbers by rows in `matrices` (house to world) and in `inverses`; of `house`, the boxes of the
 // house's tree, only the first is read. Answers as a build: on success the first 12m numbers of `proxies` hold a triangle for each placement, and `index`,
@@ -27,6 +27,7 @@ pub use sighting::{Seen, Sight};
 // lists not alike in length or not in sixteens; 24 a matrix is not good (at: the lowest such placement); 25 no root box, or it is not bounded; 26 a world box
 // is not (at: the lowest such placement); 16 proxy room shorter than 12m; 3, 4 (at: R) and 6 as in a build of m triangles. 6 sets every number of all four
 // rooms to zero; the others write nothing.
+#[tactic(auto, unfolding(builder::specs::Reply::reply, crate::specs::Making::made, crate::specs::Making::made_over, lent::specs::Ladder::unless, lent::specs::Ladder::answered, lent::specs::Ladder::first_failed, crate::specs::Making::misplaced))]
 pub fn make(
     matrices: &[f64],
     inverses: &[f64],
@@ -35,39 +36,49 @@ pub fn make(
     index: &mut [u32],
     boxes: &mut [f64],
     links: &mut [u32],
-) -> Built
+) -> Result<Built, Refused>
     ensures { outcome (top (reply result) index.new boxes.new links.new) proxies.new ≡ made matrices.now inverses.now house.now proxies.old index.old boxes.old links.old }
 {
-    let standing = placements::judge(matrices, inverses);
-    if let Standing::Refused { number, at } = standing {
-        return Built::Refused { number, at };
-    }
+    placements::judge(matrices, inverses)?;
     let root = Aabb::read(house, 0);
     if !root.bounded() {
-        return Built::Refused { number: 25, at: 0 };
+        return Err(Refused {
+            reason: Reason::BadHouse,
+            at: 0,
+        });
     }
     let m = matrices.len() / 16;
-    let far = placements::first_far(matrices, root, m);
-    if let Lowest::At(i) = far {
-        return Built::Refused { number: 26, at: i };
+    if let Some(i) = placements::first_far(matrices, root, m) {
+        return Err(Refused {
+            reason: Reason::BadPlace,
+            at: i,
+        });
     }
     if proxies.len() < m * 12 {
-        return Built::Refused { number: 16, at: 0 };
+        return Err(Refused {
+            reason: Reason::ShortRoom,
+            at: 0,
+        });
     }
     if index.len() < m {
-        return Built::Refused { number: 3, at: 0 };
+        return Err(Refused {
+            reason: Reason::ShortIndex,
+            at: 0,
+        });
     }
     let all = builder::room(m as u32);
-    if boxes.len() / 6 < all {
-        return Built::Refused { number: 4, at: all };
+    if boxes.len() / 6 < all || links.len() / 3 < all {
+        return Err(Refused {
+            reason: Reason::ShortTree,
+            at: all,
+        });
     }
-    if links.len() / 3 < all {
-        return Built::Refused { number: 4, at: all };
-    }
-    raise(matrices, root, proxies, index, boxes, links, m)
+    raise(matrices, root, proxies, index, boxes, links)
 }
 
-// The proxies of m placements are written, and the tree is built over them; where that is refused the proxies are cleared too.
+// The proxies of the m placements are written, and the tree is built over them; where that is refused the proxies are cleared too.
+// The rooms stay apart here and in `make`, as `build` takes three of them.
+#[tactic(auto, unfolding(crate::specs::Making::raised), using(crate::proofs::Raising::front, crate::proofs::Raising::whole, crate::proofs::Raising::kept, crate::proofs::Raising::zeros))]
 fn raise(
     matrices: &[f64],
     root: Aabb,
@@ -75,16 +86,15 @@ fn raise(
     index: &mut [u32],
     boxes: &mut [f64],
     links: &mut [u32],
-    m: usize,
-) -> Built
-    requires { (m * 12 ≤ length proxies.old) × (m ≡ placement_count matrices.now) × (m ≤ most_placements) }
+) -> Result<Built, Refused>
+    requires { placement_count matrices.now * 12 ≤ length proxies.old }
     ensures { outcome (top (reply result) index.new boxes.new links.new) proxies.new ≡ raised (proxies_of matrices.now root) proxies.old index.old boxes.old links.old }
 {
+    let m = matrices.len() / 16;
     proxies::write(matrices, root, proxies, m);
     let built = builder::build(&proxies[0..m * 12], index, boxes, links);
-    if let Built::Refused { number, at } = built {
-        builder::clear_floats(proxies);
-        return Built::Refused { number, at };
+    if built.is_err() {
+        proxies.fill(0.0);
     }
     built
 }

@@ -11,36 +11,19 @@ use triangle::Triangle;
 pub fn world_box(matrix: Matrix, root: Aabb) -> Aabb
     ensures { result ≡ world_box matrix root }
 {
-    let low = face(matrix, Aabb::empty(), root, root.min.z);
-    face(matrix, low, root, root.max.z)
-}
-
-// Grown by the four corners at z.
-fn face(matrix: Matrix, b: Aabb, root: Aabb, z: f64) -> Aabb
-    ensures { result ≡ grown_by matrix b (vec root.min.x root.min.y z ∷ vec root.max.x root.min.y z ∷ vec root.min.x root.max.y z ∷ vec root.max.x root.max.y z ∷ []) }
-{
-    let near = edge(matrix, b, root, root.min.y, z);
-    edge(matrix, near, root, root.max.y, z)
-}
-
-// Grown by the two corners at y and z.
-fn edge(matrix: Matrix, b: Aabb, root: Aabb, y: f64, z: f64) -> Aabb
-    ensures { result ≡ grown_by matrix b (vec root.min.x y z ∷ vec root.max.x y z ∷ []) }
-{
-    let p = matrix.point(Vec3 {
-        x: root.min.x,
-        y,
-        z,
-    });
-    let q = matrix.point(Vec3 {
-        x: root.max.x,
-        y,
-        z,
-    });
-    b.grow(p).grow(q)
+    let mut bounds = Aabb::empty();
+    for z in [root.min.z, root.max.z] {
+        for y in [root.min.y, root.max.y] {
+            for x in [root.min.x, root.max.x] {
+                bounds = bounds.grow(matrix.point(Vec3 { x, y, z }));
+            }
+        }
+    }
+    bounds
 }
 
 // The triangle of min, max and half their sum, with the normal that these give.
+#[tactic(auto, unfolding(crate::specs::Placing::proxy_of))]
 pub fn proxy(b: Aabb) -> Triangle
     ensures { result ≡ proxy_of b }
 {
@@ -49,6 +32,7 @@ pub fn proxy(b: Aabb) -> Triangle
 }
 
 // The world box of placement i.
+#[tactic(auto, unfolding(crate::specs::Placing::world_at))]
 pub fn world_at(matrices: &[f64], root: Aabb, i: usize) -> Aabb
     ensures { result ≡ world_at matrices.now root i }
 {

@@ -9,34 +9,26 @@ use aabb::Aabb;
 use triangle::Triangle;
 
 // Those of the first m placements; room beyond stays.
+#[tactic(auto, using(crate::proofs::ProxyRoom::none_yet, crate::proofs::ProxyRoom::one_more))]
 pub fn write(matrices: &[f64], root: Aabb, room: &mut [f64], m: usize)
     requires { m * 12 ≤ length room.old }
     ensures { room.new ≡ records (proxy_numbers matrices.now root) m ++ drop (m * 12) room.old }
 {
-    let mut i: usize = 0;
-    while i < m {
+    for i in 0..m {
         let bounds = placing::world_at(matrices, root, i);
         put(room, i, placing::proxy(bounds));
-        i += 1;
     }
 }
 
 // Triangle i, written: twelve numbers.
+#[tactic(auto, unfolding(lent::specs::Flat::put, triangle::specs::Mesh::triangle_numbers), using(crate::proofs::ProxyRoom::copied))]
 fn put(room: &mut [f64], i: usize, t: Triangle)
     requires { i * 12 + 12 ≤ length room.old }
     ensures { room.new ≡ written 12 room.old i (triangle_numbers t) }
 {
+    let Triangle { v0, v1, v2, normal } = t;
     let at = i * 12;
-    room[at] = t.v0.x;
-    room[at + 1] = t.v0.y;
-    room[at + 2] = t.v0.z;
-    room[at + 3] = t.v1.x;
-    room[at + 4] = t.v1.y;
-    room[at + 5] = t.v1.z;
-    room[at + 6] = t.v2.x;
-    room[at + 7] = t.v2.y;
-    room[at + 8] = t.v2.z;
-    room[at + 9] = t.normal.x;
-    room[at + 10] = t.normal.y;
-    room[at + 11] = t.normal.z;
+    room[at..at + 12].copy_from_slice(&[
+        v0.x, v0.y, v0.z, v1.x, v1.y, v1.z, v2.x, v2.y, v2.z, normal.x, normal.y, normal.z,
+    ]);
 }

@@ -15,6 +15,7 @@ pub struct Row {
     pub w: f64,
 }
 
+// Its rows have names: in an array a definition would read each by its place, with a row for places beyond the end.
 #[derive(Clone, Copy)]
 pub struct Matrix {
     pub first: Row,
@@ -23,15 +24,9 @@ pub struct Matrix {
     pub fourth: Row,
 }
 
-// The ray in the house's numbers, or none.
-#[derive(Clone, Copy)]
-pub enum Local {
-    Cast(Ray),
-    Skipped,
-}
-
 impl Row {
     // Four numbers of a lent list from place `at` on; a NaN for each place beyond its end.
+    #[tactic(auto, unfolding(crate::specs::Rows::row_at, aabb::specs::Vector::vector_at))]
     fn read(numbers: &[f64], at: usize) -> Row
         requires { at ≤ list_length numbers.now + 12 }
         ensures { result ≡ row_at numbers.now at }
@@ -42,26 +37,23 @@ impl Row {
     }
 
     // Whether the four numbers are finite, of magnitude at most 2^20.
+    #[tactic(auto, unfolding(crate::specs::Rows::small_row, aabb::specs::Vector::within))]
     fn small(self) -> bool
         ensures { result ≡ small_row self }
     {
-        if self.xyz.within(TWO_TO_20) {
-            return float::magnitude(self.w) <= TWO_TO_20;
-        }
-        false
+        self.xyz.within(TWO_TO_20) && float::magnitude(self.w) <= TWO_TO_20
     }
 
     // Whether they are 0, 0, 0, 1.
+    #[tactic(auto, unfolding(crate::specs::Rows::bottom_row))]
     fn bottom(self) -> bool
         ensures { result ≡ bottom_row self }
     {
-        if self.xyz.all_equal(0.0) {
-            return self.w == 1.0;
-        }
-        false
+        self.xyz.all_equal(0.0) && self.w == 1.0
     }
 
     // ((a·x + b·y) + c·z) + d·w
+    #[tactic(auto, unfolding(crate::specs::Rows::against))]
     fn against(self, p: Vec3, w: f64) -> f64
         ensures { result ≡ against self p w }
     {
@@ -71,6 +63,7 @@ impl Row {
 
 impl Matrix {
     // Matrix i of a lent list, sixteen numbers each, by rows; a NaN for each place beyond its end.
+    #[tactic(auto, unfolding(crate::specs::Rows::matrix_at), using(crate::proofs::Matrices::matrix_starts))]
     pub fn read(numbers: &[f64], i: usize) -> Matrix
         ensures { result ≡ matrix_at numbers.now i }
     {
@@ -88,25 +81,19 @@ impl Matrix {
     }
 
     // Whether its numbers are finite, of magnitude at most 2^20, and its bottom row is 0, 0, 0, 1.
+    #[tactic(auto, unfolding(crate::specs::Rows::good_matrix))]
     pub fn good(self) -> bool
         ensures { result ≡ good_matrix self }
     {
-        if !self.first.small() {
-            return false;
-        }
-        if !self.second.small() {
-            return false;
-        }
-        if !self.third.small() {
-            return false;
-        }
-        if !self.fourth.small() {
-            return false;
-        }
-        self.fourth.bottom()
+        self.first.small()
+            && self.second.small()
+            && self.third.small()
+            && self.fourth.small()
+            && self.fourth.bottom()
     }
 
     // Its first three rows against (p, w).
+    #[tactic(auto, unfolding(crate::specs::Rows::through))]
     fn through(self, p: Vec3, w: f64) -> Vec3
         ensures { result ≡ through self p w }
     {
@@ -117,6 +104,7 @@ impl Matrix {
     }
 
     // A point, with w = 1.
+    #[tactic(auto, unfolding(crate::specs::Rows::point_by))]
     pub fn point(self, p: Vec3) -> Vec3
         ensures { result ≡ point_by self p }
     {
@@ -124,6 +112,7 @@ impl Matrix {
     }
 
     // A direction, with w = 0.
+    #[tactic(auto, unfolding(crate::specs::Rows::direction_by))]
     pub fn direction(self, d: Vec3) -> Vec3
         ensures { result ≡ direction_by self d }
     {
@@ -131,6 +120,7 @@ impl Matrix {
     }
 
     // The column on an axis, as a row: x at 0, y at 1, z at 2 and beyond.
+    #[tactic(auto, unfolding(crate::specs::Rows::column_of))]
     fn column(self, axis: usize) -> Row
         ensures { result ≡ column_of self axis }
     {
@@ -145,6 +135,7 @@ impl Matrix {
     }
 
     // A normal of the house, by the columns of its placement's inverse, with w = 0.
+    #[tactic(auto, unfolding(crate::specs::Rows::normal_by))]
     pub fn normal(self, n: Vec3) -> Vec3
         ensures { result ≡ normal_by self n }
     {
@@ -155,7 +146,8 @@ impl Matrix {
     }
 
     // The ray in the house's numbers, by the inverse: its direction is divided by its length, and there is none unless that is above 1e-12.
-    pub fn transform_ray(self, ray: Ray) -> Local
+    #[tactic(auto, unfolding(crate::specs::Rows::local_ray))]
+    pub fn transform_ray(self, ray: Ray) -> Option<Ray>
         ensures { result ≡ local_ray self ray }
     {
         let origin = self.point(ray.origin);
@@ -165,19 +157,21 @@ impl Matrix {
 }
 
 // The length of a vector: the root of its dot with itself.
+#[tactic(auto, unfolding(crate::specs::Rows::length_of))]
 pub fn length(a: Vec3) -> f64
     ensures { result ≡ length_of a }
 {
     float::root(a.dot(a))
 }
 
-fn cast(origin: Vec3, along: Vec3) -> Local
+#[tactic(auto, unfolding(crate::specs::Rows::cast))]
+fn cast(origin: Vec3, along: Vec3) -> Option<Ray>
     ensures { result ≡ cast origin along }
 {
     let size = length(along);
     if size > 1e-12 {
         let direction = along.divided(size);
-        return Local::Cast(Ray { origin, direction });
+        return Some(Ray { origin, direction });
     }
-    Local::Skipped
+    None
 }

@@ -23,21 +23,22 @@ pub struct Sight {
     pub material: u32,
 }
 
-#[derive(Clone, Copy)]
-pub enum Seen {
-    One(Sight),
-    None,
-}
-
 // The hit of a placement, given in the house's numbers; none where its t is not above 1e-5.
-pub fn world_hit(matrix: Matrix, inverse: Matrix, ray: Ray, hit: Hit, placement: u32) -> Seen
+#[tactic(auto, unfolding(crate::specs::Sighting::world_hit, crate::specs::Sighting::counted, crate::specs::Sighting::sight_of))]
+pub fn world_hit(
+    matrix: Matrix,
+    inverse: Matrix,
+    ray: Ray,
+    hit: Hit,
+    placement: u32,
+) -> Option<Sight>
     ensures { result ≡ world_hit matrix inverse ray hit placement }
 {
     let point = matrix.point(hit.point);
     let normal = unit(inverse.normal(hit.normal));
     let t = world_t(ray, point);
     if t > 1e-5 {
-        return Seen::One(Sight {
+        return Some(Sight {
             t,
             point,
             normal,
@@ -49,10 +50,11 @@ pub fn world_hit(matrix: Matrix, inverse: Matrix, ray: Ray, hit: Hit, placement:
             material: hit.material,
         });
     }
-    Seen::None
+    None
 }
 
 // (point - origin) · direction
+#[tactic(auto, unfolding(crate::specs::Sighting::world_t))]
 fn world_t(ray: Ray, point: Vec3) -> f64
     ensures { result ≡ world_t ray point }
 {
@@ -60,6 +62,7 @@ fn world_t(ray: Ray, point: Vec3) -> f64
 }
 
 // Divided by its length; one of length zero stays.
+#[tactic(auto, unfolding(crate::specs::Sighting::unit))]
 fn unit(n: Vec3) -> Vec3
     ensures { result ≡ unit n }
 {
@@ -71,30 +74,21 @@ fn unit(n: Vec3) -> Vec3
 }
 
 // Whether the new hit replaces the best: its t is smaller, or equal and its placement lower.
+#[tactic(auto, unfolding(crate::specs::Sighting::ahead))]
 fn is_ahead(new: Sight, best: Sight) -> bool
     ensures { result ≡ ahead new best }
 {
-    if new.t < best.t {
-        return true;
-    }
-    if new.t == best.t {
-        return new.placement < best.placement;
-    }
-    false
+    new.t < best.t || new.t == best.t && new.placement < best.placement
 }
 
 // The better of what was seen and what is new.
-pub fn kept(best: Seen, new: Seen) -> Seen
+#[tactic(auto, unfolding(crate::specs::Sighting::better))]
+pub fn kept(best: Option<Sight>, new: Option<Sight>) -> Option<Sight>
     ensures { result ≡ better best new }
 {
-    let Seen::One(n) = new else {
-        return best;
-    };
-    let Seen::One(b) = best else {
-        return new;
-    };
-    if is_ahead(n, b) {
-        return new;
+    match (best, new) {
+        (_, None) => best,
+        (None, _) => new,
+        (Some(b), Some(n)) => { if is_ahead(n, b) { new } else { best } }
     }
-    best
 }

@@ -15,7 +15,7 @@ use Rattle.tree.specs.Node.{node_at, linked, node_of}
 use Rattle.tree.specs.Tree.{Tree}
 use Rattle.tree.specs.Accepted.{Accepted}
 use Rattle.tree.proofs.Fitted.{fitting}
-use Rattle.accept.specs.Lowest.{tick, count}
+use Rattle.accept.specs.Count.{tick, count}
 use Rattle.accept.specs.Conditions.{nodes, meshed, single, parent, reached, breaks_2, breaks_3, covered, breaks_4}
 use Rattle.accept.specs.inner.Room.{first_at, count_at, kind_at}
 use Rattle.accept.proofs.Count.{count_same}

@@ -11,7 +11,7 @@ use borrow.Author.Tests.{eq-eqb, ne_eqb, eqb-true, leb-false, lt-leb}
 use Rattle.lent.specs.Permutation.{occurs, occ, Perm, up_to}
 use Rattle.lent.proofs.Permutation.{occurs_same, occurs_cases, occ_append, occ_at, up_below}
 use Rattle.float.proofs.Cases.{same?, low_or_high, neither}
-use Rattle.accept.specs.Lowest.{tick, any, count}
+use Rattle.accept.specs.Count.{tick, any, count}
 use Rattle.accept.specs.Conditions.{misplaced}
 use Rattle.accept.proofs.Count.{any_none}
 use Rattle.trusted.proofs.Sums.{sum, sum_same, sum_most, sum_ones, sum_turned, count_sum, share, sum_one, all_ones}

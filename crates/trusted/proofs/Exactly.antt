@@ -4,10 +4,8 @@ use mathlib.Core.List.{List}
 use Prim.Native.Nat.{ℕ}
 use Rattle.lent.specs.Limits.{deepest}
 use Rattle.tree.specs.Lent.{Lent}
-use Rattle.accept.specs.declared.Verdict.{Verdict}
-use Rattle.accept.specs.declared.Verdict.TheVariants.{Accepted as Fine}
 use Rattle.accept.specs.Conditions.{foreign}
-use Rattle.accept.specs.Accept.{ruling, Outcome, outcome, accepted}
+use Rattle.accept.specs.Accept.{Verdict, fine, ruling, Outcome, outcome, accepted}
 use Rattle.accept.proofs.accept.Reads as accept_call
 use Rattle.trusted.specs.Meets.{Sound, Roomy, Meets}
 use Rattle.trusted.specs.Exactly.{Gives, Trusted, Exactly}
@@ -17,10 +15,10 @@ use Rattle.trusted.proofs.Unbroken.{tree_meets}
 use Rattle.trusted.proofs.Judged.{fine_is, accepted_meets, meets_accepted}
 
 module _ (s : Lent) (work : List ℕ) (v : Verdict) (after : List ℕ) (e : outcome (ruling v) after ≡ accepted s work) where
-  meets : v ≡ Fine → Sound s × Roomy s work × Meets s
+  meets : v ≡ fine → Sound s × Roomy s work × Meets s
   meets f = accepted_meets s work (sym (ap (λ (o : Outcome). o.answer) e) ∙ ap ruling f)
 
-  is_fine : Sound s → Roomy s work → Meets s → v ≡ Fine
+  is_fine : Sound s → Roomy s work → Meets s → v ≡ fine
   is_fine A room K = fine_is v (ap (λ (o : Outcome). o.answer) (e ∙ meets_accepted s work A room K))
 
   sound : Trusted s → Sound s
@@ -35,5 +33,5 @@ module _ (s : Lent) (work : List ℕ) (v : Verdict) (after : List ℕ) (e : outc
     zeroed = λ f. let m = meets f in ap (λ (o : Outcome). o.work) (e ∙ meets_accepted s work m.0 m.1 m.2);
   }
 
-pub accept_exactly : Gives accept_call.Post (λ κs x r e. Exactly (foreign x.0.now x.1.0.now x.1.1.0.now x.1.1.1.0.now) x.1.1.1.1.0.now r e.1.1.1.1.0.now)
+pub accept_exactly : Gives accept_call.Post (λ κs x r e. Exactly (foreign x.0.now x.1.0.now.index x.1.0.now.boxes x.1.0.now.links) x.1.1.0.now r e.1.1.0.now)
 accept_exactly κs x r e p = exactly _ _ r _ p

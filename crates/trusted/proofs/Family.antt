@@ -10,7 +10,7 @@ use Rattle.float.proofs.Cases.{same?, and_both}
 use Rattle.tree.specs.Lent.{Lent}
 use Rattle.tree.specs.Node.{node_of, left_of, right_of}
 use Rattle.tree.specs.Holds.{ChildOf, OnlyChild}
-use Rattle.accept.specs.Lowest.{count}
+use Rattle.accept.specs.Count.{count}
 use Rattle.accept.specs.Conditions.{nodes, parent, breaks_2}
 use Rattle.accept.proofs.Count.{count_none}
 use Rattle.accept.proofs.Family.{Parent, only, parent_of}

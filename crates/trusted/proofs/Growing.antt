@@ -17,7 +17,7 @@ use Rattle.tree.specs.Node.{node_at, linked, left_of, right_of}
 use Rattle.tree.specs.Node.{node_of}
 use Rattle.tree.specs.Tree.{Tree, leaf, internal, box_of, size, depth, held}
 use Rattle.tree.specs.Holds.{Holds, Nested, Finite, Occupied, covering, Snug}
-use Rattle.accept.specs.Lowest.{tick, count}
+use Rattle.accept.specs.Count.{tick, count}
 use Rattle.accept.specs.Conditions.{nodes, parent, breaks_2, reached, covered, holds_each, encloses, breaks_6}
 use Rattle.accept.specs.inner.Room.{first_at, count_at, kind_at, parent_at}
 use Rattle.accept.proofs.Count.{count_none, count_one, any_one}

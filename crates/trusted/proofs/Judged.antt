@@ -2,7 +2,7 @@
 use mathlib.Core.Path.{◌≡◌, refl, sym, ◌∙◌, ap}
 use mathlib.Core.Bool.{Bool, true, false, cond}
 use mathlib.Core.List.{List}
-use Prim.Native.Nat.{ℕ, zero, suc, ◌+◌, ◌%◌, ◌≤◌, ◌<◌}
+use Prim.Native.Nat.{ℕ, ◌+◌, ◌%◌, ◌≤◌, ◌<◌}
 use native.Mathlib.Omega.{arith}
 use lib.Dec.{ltb, eqb}
 use lib.ListN.{length, replicate}
@@ -12,44 +12,44 @@ use Rattle.lent.proofs.Ladder.{all_passed, ends, goes, agree, not_below}
 use Rattle.triangle.specs.Mesh.{first_refused}
 use Rattle.triangle.proofs.Admitting.{none_refused, all_admitted, none_unadmitted, none_bad}
 use Rattle.tree.specs.Lent.{Lent}
-use Rattle.accept.specs.declared.breach.Breach.{Breach}
-use Rattle.accept.specs.declared.breach.Breach.TheVariants.{At, Nowhere}
-use Rattle.accept.specs.declared.Verdict.{Verdict}
-use Rattle.accept.specs.declared.Verdict.TheVariants.{Accepted as fine, Refused}
-use Rattle.accept.specs.Lowest.{lowest}
+use Rattle.std.specs.Prelude.{Option, Some, None, Ok, Err}
+use Rattle.lent.specs.Ladder.{none, numbered}
+use Rattle.lent.specs.Lowest.{lowest}
+use Rattle.lent.proofs.Lowest.{none_from, none_below}
+use Rattle.accept.specs.declared.rejection.Condition.{Condition}
+use Rattle.accept.specs.declared.rejection.Condition.TheVariants.{Faultless, OneParent, Reached, Covered, Permutation, Enclosed}
+use Rattle.accept.specs.declared.rejection.Rejection.TheVariants.{Refused, Broken}
 use Rattle.accept.specs.Conditions.{nodes, meshed, breaks_1, breaks_2, breaks_3, breaks_4, breaks_5, breaks_6}
-use Rattle.accept.specs.Accept.{else, lacking, from_2, from_3, from_4, from_5, from_6, judged, Ruling, ruling, refusing, Outcome, outcome, accepted}
-use Rattle.accept.proofs.Lowest.{nowhere, passed}
+use Rattle.accept.specs.Accept.{Verdict, fine, else, lacking, from_2, from_3, from_4, from_5, from_6, judged, Ruling, ruling, other, Outcome, outcome, accepted}
 use Rattle.trusted.specs.Meets.{Sound, Roomy, Meets}
 
 -- ---- where the verdict is good, no condition breaks
-kept : (k : ℕ) (p : Breach) (v : Verdict) → else k p v ≡ fine → (p ≡ Nowhere) × (v ≡ fine)
-unfolding else
-kept k (At i) v e = let z : ◌≡◌ {A = ℕ} 0 1 = cc in absurd (omega arith)
-kept k Nowhere v e = (refl, e)
+kept : (c : Condition) (p : Option ℕ) (v : Verdict) → else c p v ≡ fine → (p ≡ None) × (v ≡ fine)
+kept c (Some i) v e = let z : ◌≡◌ {A = ℕ} 0 1 = cc in absurd (omega arith)
+kept c None v e = (refl, e)
 
-nothing_lacks : (n : ℕ) (index : List ℕ) (p : Breach) → lacking n index p ≡ Nowhere → (p ≡ Nowhere) × (n ≤ length index)
+nothing_lacks : (n : ℕ) (index : List ℕ) (p : Option ℕ) → lacking n index p ≡ None → (p ≡ None) × (n ≤ length index)
 unfolding lacking
-nothing_lacks n index (At p) e = let z : ◌≡◌ {A = ℕ} 0 1 = cc in absurd (omega arith)
-nothing_lacks n index Nowhere e = (refl, ltb-false (length index) n (go (ltb (length index) n) e))
+nothing_lacks n index (Some p) e = let z : ◌≡◌ {A = ℕ} 0 1 = cc in absurd (omega arith)
+nothing_lacks n index None e = (refl, ltb-false (length index) n (go (ltb (length index) n) e))
   where
-    go : (t : Bool) → cond t (At (length index)) Nowhere ≡ Nowhere → t ≡ false
+    go : (t : Bool) → cond t (Some (length index)) None ≡ None → t ≡ false
     go true w = let z : ◌≡◌ {A = ℕ} 0 1 = cc in absurd (omega arith)
     go false w = refl
 
-clear : (p : ℕ → Bool) (n : ℕ) → lowest p 0 n ≡ Nowhere → (i : ℕ) → i < n → p i ≡ false
-clear p n e i l = nowhere p 0 n e i (omega arith) (omega arith)
+clear : (p : ℕ → Bool) (n : ℕ) → lowest p 0 n ≡ None → (i : ℕ) → i < n → p i ≡ false
+clear p n e i l = none_from p 0 n e i (omega arith) (omega arith)
 
 judged_meets : (s : Lent) → judged s ≡ fine → Meets s
 unfolding judged from_2 from_3 from_4 from_5 from_6
 judged_meets s e =
-    let a = kept 1 (lowest (breaks_1 s) 0 (nodes s)) (from_2 s) e in
-    let b = kept 2 (lowest (breaks_2 s) 0 (nodes s)) (from_3 s) a.1 in
-    let c = kept 3 (lowest (breaks_3 s) 0 (nodes s)) (from_4 s) b.1 in
-    let d = kept 4 (lowest (breaks_4 s) 0 (length s.tree.index)) (from_5 s) c.1 in
-    let f = kept 5 (lacking (meshed s) s.tree.index (lowest (breaks_5 s) 0 (length s.tree.index))) (from_6 s) d.1 in
+    let a = kept Faultless (lowest (breaks_1 s) 0 (nodes s)) (from_2 s) e in
+    let b = kept OneParent (lowest (breaks_2 s) 0 (nodes s)) (from_3 s) a.1 in
+    let c = kept Reached (lowest (breaks_3 s) 0 (nodes s)) (from_4 s) b.1 in
+    let d = kept Covered (lowest (breaks_4 s) 0 (length s.tree.index)) (from_5 s) c.1 in
+    let f = kept Permutation (lacking (meshed s) s.tree.index (lowest (breaks_5 s) 0 (length s.tree.index))) (from_6 s) d.1 in
     let g = nothing_lacks (meshed s) s.tree.index (lowest (breaks_5 s) 0 (length s.tree.index)) f.0 in
-    let h = kept 6 (lowest (breaks_6 s) 0 (nodes s)) fine f.1 in
+    let h = kept Enclosed (lowest (breaks_6 s) 0 (nodes s)) fine f.1 in
     record {
       one = clear (breaks_1 s) (nodes s) a.0;
       two = clear (breaks_2 s) (nodes s) b.0;
@@ -61,29 +61,28 @@ judged_meets s e =
     }
 
 -- ---- and the other way
-unbroken : (p : ℕ → Bool) (i k : ℕ) → ((j : ℕ) → i ≤ j → j < i + k → p j ≡ false) → lowest p i k ≡ Nowhere
-unfolding lowest
-unbroken p i zero f = refl
-unbroken p i (suc k) f = passed p i k (f i (omega arith) (omega arith)) ∙ unbroken p (suc i) k (λ j l m. f j (omega arith) (omega arith))
-
-none_of : (p : ℕ → Bool) (n : ℕ) → ((j : ℕ) → j < n → p j ≡ false) → lowest p 0 n ≡ Nowhere
-none_of p n f = unbroken p 0 n (λ j l m. f j (omega arith))
+none_of : (p : ℕ → Bool) (n : ℕ) → ((j : ℕ) → j < n → p j ≡ false) → lowest p 0 n ≡ None
+none_of p n f = none_below p 0 n (λ j l m. f j (omega arith))
 
 meets_judged : (s : Lent) → Meets s → judged s ≡ fine
-unfolding judged from_2 from_3 from_4 from_5 from_6 else lacking
+unfolding judged from_2 from_3 from_4 from_5 from_6 lacking
 meets_judged s K =
     rw
     (none_of (breaks_1 s) (nodes s) K.one, none_of (breaks_2 s) (nodes s) K.two, none_of (breaks_3 s) (nodes s) K.three, none_of (breaks_4 s) (length s.tree.index) K.four, none_of (breaks_5 s) (length s.tree.index) K.five, le-ltb (length s.tree.index) (meshed s) K.long, none_of (breaks_6 s) (nodes s) K.six)
 
 -- ---- the call
+refused_not : (number at : ℕ) → numbered number at ≡ none → ⊥
+refused_not number at e = let z : ◌≡◌ {A = ℕ} 0 1 = cc in omega arith
+
 pub fine_is : (v : Verdict) → ruling v ≡ ruling fine → v ≡ fine
 unfolding ruling
-fine_is fine e = refl
-fine_is (Refused n k i) e = let f = ap (λ (r : Ruling). r.refusal) e in let z : ◌≡◌ {A = ℕ} 0 1 = cc in absurd (omega arith)
+fine_is (Ok tt) e = refl
+fine_is (Err (Refused r)) e = absurd (refused_not _ r.at (ap (λ (r : Ruling). r.refusal) e))
+fine_is (Err (Broken c at)) e = absurd (refused_not 19 at (ap (λ (r : Ruling). r.refusal) e))
 
-not_refused : (n i : ℕ) → ruling (refusing n i) ≡ ruling fine → ⊥
+not_refused : (n i : ℕ) → other (numbered n i) ≡ ruling fine → ⊥
 unfolding ruling
-not_refused n i e = let f = ap (λ (r : Ruling). r.refusal) e in let z : ◌≡◌ {A = ℕ} 0 1 = cc in omega arith
+not_refused n i e = refused_not n i (ap (λ (r : Ruling). r.refusal) e)
 
 module _ (s : Lent) (work : List ℕ) where
   pub accepted_meets : (accepted s work).answer ≡ ruling fine → Sound s × Roomy s work × Meets s

@@ -13,7 +13,7 @@ use Rattle.tree.specs.Lent.{Lists, node_count}
 use Rattle.tree.specs.Node.{node_of, left_of, right_of}
 use Rattle.tree.specs.Tree.{Tree, leaf, internal, below, size}
 use Rattle.tree.specs.Holds.{Holds, ChildOf, OnlyChild}
-use Rattle.accept.specs.Lowest.{tick}
+use Rattle.accept.specs.Count.{tick}
 use Rattle.trusted.proofs.Sums.{sum, sum_same, sum_add, share, sum_one, all_ones}
 
 module _ (s : Lists) where

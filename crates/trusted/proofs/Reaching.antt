@@ -7,7 +7,7 @@ use native.Mathlib.Omega.{arith}
 use lib.Dec.{eqb}
 use Rattle.float.proofs.Cases.{same?}
 use Rattle.tree.specs.Lent.{Lent}
-use Rattle.accept.specs.Lowest.{any}
+use Rattle.accept.specs.Count.{any}
 use Rattle.accept.specs.Conditions.{nodes, parent, reached}
 
 or_true : (a : Bool) → (a || true) ≡ true

@@ -18,7 +18,7 @@ use Rattle.tree.specs.Tree.{Tree, leaf, internal, box_of, size, depth}
 use Rattle.tree.specs.Holds.{Holds, Nested, Finite, Occupied, Bare, covering, Snug}
 use Rattle.tree.specs.Accepted.{Accepted}
 use Rattle.tree.proofs.Fitted.{fitting}
-use Rattle.accept.specs.Lowest.{tick, count}
+use Rattle.accept.specs.Count.{tick, count}
 use Rattle.accept.specs.Conditions.{nodes, meshed, single, parent, reached, covered, encloses, breaks_1, breaks_2, breaks_3, breaks_4, breaks_6}
 use Rattle.accept.specs.inner.Room.{first_at, count_at}
 use Rattle.accept.proofs.Faults.{of_empty, of_mesh, of_leaf, of_inner}

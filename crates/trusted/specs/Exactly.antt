@@ -3,8 +3,7 @@ use Rattle.std.specs.Prelude.{◌≡◌, List, ℕ, length, replicate}
 use Rattle.tree.specs.Lent.{Lent}
 use Rattle.tree.specs.Tree.{Tree}
 use Rattle.tree.specs.Accepted.{Accepted}
-use Rattle.accept.specs.declared.Verdict.{Verdict}
-use Rattle.accept.specs.declared.Verdict.TheVariants.{Accepted as Fine}
+use Rattle.accept.specs.Accept.{Verdict, fine}
 use Rattle.trusted.specs.Meets.{Sound, Roomy, Meets}
 
 -- what a call's promise gives, of its arguments, its answer and the parameters at exit
@@ -20,10 +19,10 @@ pub record Trusted (s : Lent) : Type 0 where
 -- of the answer to lists and a work room, and of the room at the end
 pub record Exactly (s : Lent) (work : List ℕ) (answer : Verdict) (after : List ℕ) : Type 0 where
   -- accepted exactly if no check fails and no condition breaks
-  pub breaks_none : answer ≡ Fine → Sound s × Roomy s work × Meets s
-  pub none_breaks : Sound s → Roomy s work → Meets s → answer ≡ Fine
+  pub breaks_none : answer ≡ fine → Sound s × Roomy s work × Meets s
+  pub none_breaks : Sound s → Roomy s work → Meets s → answer ≡ fine
   -- accepted exactly if the lists hold a tree as rule G2 asks of one, and the room suffices
-  pub holds_tree : answer ≡ Fine → Trusted s
-  pub tree_held : Trusted s → Roomy s work → answer ≡ Fine
+  pub holds_tree : answer ≡ fine → Trusted s
+  pub tree_held : Trusted s → Roomy s work → answer ≡ fine
   -- and then the whole room is zero
-  pub zeroed : answer ≡ Fine → after ≡ replicate (length work) 0
+  pub zeroed : answer ≡ fine → after ≡ replicate (length work) 0

@@ -5,7 +5,8 @@
 ghost use Rattle.std.specs.Prelude.{◌≤◌};
 
 use aabb::{Ray, Vec3};
-use sky::Filled;
+use lent::Refused;
+use tree::{Lent, Lists, Mesh};
 use walk::Answer;
 
 fn main() {
@@ -37,6 +38,13 @@ fn count(n: u64) {
     io::print_decimal(1, n);
 }
 
+fn refused(why: Refused) {
+    io::write_all(1, b": refused");
+    count(u64::from(why.reason.number()));
+    io::write_all(1, b" at");
+    count(why.at as u64);
+}
+
 fn show(label: &[u8], answer: Answer) {
     io::write_all(1, label);
     match answer {
@@ -46,24 +54,20 @@ fn show(label: &[u8], answer: Answer) {
             triangles,
         } => {
             io::write_all(1, b": hit");
-            count(hit.triangle as u64);
+            count(u64::from(hit.triangle));
             io::write_all(1, b" t");
             number(hit.t);
             io::write_all(1, b" point");
             vector(hit.point);
             io::write_all(1, b" normal");
             vector(hit.normal);
-            if hit.front {
-                io::write_all(1, b" front");
-            } else {
-                io::write_all(1, b" back");
-            }
+            io::write_all(1, if hit.front { b" front" } else { b" back" });
             io::write_all(1, b" u");
             number(hit.u);
             io::write_all(1, b" v");
             number(hit.v);
             io::write_all(1, b" material");
-            count(hit.material as u64);
+            count(u64::from(hit.material));
             io::write_all(1, b" tests");
             count(boxes);
             count(triangles);
@@ -73,17 +77,14 @@ fn show(label: &[u8], answer: Answer) {
             count(boxes);
             count(triangles);
         }
-        Answer::Refused { number, at } => {
-            io::write_all(1, b": refused");
-            count(number as u64);
-            io::write_all(1, b" at");
-            count(at);
+        Answer::Refused(why) => {
+            refused(why);
         }
     }
     io::write_all(1, b"\n");
 }
 
-// ---- rays and meshes
+// ---- rays and what is lent
 fn ray(x: f64, y: f64, z: f64, dx: f64, dy: f64, dz: f64) -> Ray {
     Ray {
         origin: Vec3 { x, y, z },
@@ -99,56 +100,47 @@ fn down(x: f64, y: f64, z: f64) -> Ray {
     ray(x, y, z, 0.0, 0.0, -1.0)
 }
 
-// The triangle T of the probe table.
-fn probe() -> [f64; 12] {
-    [0.0, 0.0, 0.0, 1.0, 0.0, 0.0, 0.0, 1.0, 0.0, 0.0, 0.0, 1.0]
+fn nan() -> f64 {
+    float::from_bits(0x7ff8_0000_0000_0000)
 }
 
-// The right-angled triangle with its corner at (x, 0, z), legs of this length along x and y, and the normal up, put into a mesh of five at most.
-fn upward(mesh: [f64; 60], at: usize, x: f64, z: f64, leg: f64) -> [f64; 60]
-    requires { at ≤ 48 }
-{
-    let mut more = mesh;
-    more[at] = x;
-    more[at + 2] = z;
-    more[at + 3] = x + leg;
-    more[at + 5] = z;
-    more[at + 6] = x;
-    more[at + 7] = leg;
-    more[at + 8] = z;
-    more[at + 11] = 1.0;
-    more
+fn lent<'a>(
+    triangles: &'a [f64],
+    materials: &'a [u32],
+    index: &'a [u32],
+    boxes: &'a [f64],
+    links: &'a [u32],
+) -> Lent<'a> {
+    Lent {
+        mesh: Mesh {
+            triangles,
+            materials,
+        },
+        tree: Lists {
+            index,
+            boxes,
+            links,
+        },
+    }
 }
 
-// The box from (x, 0, 0) to (far, side, high), put among three.
-fn spanned(boxes: [f64; 18], at: usize, x: f64, far: f64, side: f64, high: f64) -> [f64; 18]
-    requires { at ≤ 12 }
-{
-    let mut more = boxes;
-    more[at] = x;
-    more[at + 3] = far;
-    more[at + 4] = side;
-    more[at + 5] = high;
-    more
-}
+// The triangle T of the probe table, its box, and a leaf of it alone.
+const PROBE: [f64; 12] = [0.0, 0.0, 0.0, 1.0, 0.0, 0.0, 0.0, 1.0, 0.0, 0.0, 0.0, 1.0];
 
-// Three times the box from the origin to (1, 1, high).
-fn alike(high: f64) -> [f64; 18] {
-    let one = spanned([0.0; 18], 0, 0.0, 1.0, 1.0, high);
-    let two = spanned(one, 6, 0.0, 1.0, 1.0, high);
-    spanned(two, 12, 0.0, 1.0, 1.0, high)
+const PROBE_BOX: [f64; 6] = [0.0, 0.0, 0.0, 1.0, 1.0, 0.0];
+
+const LEAF: [u32; 3] = [0, 1, 1];
+
+// The right-angled triangle with its corner at (x, 0, z), legs of this length along x and y, and the normal up.
+fn upward(x: f64, z: f64, leg: f64) -> [f64; 12] {
+    [x, 0.0, z, x + leg, 0.0, z, x, leg, z, 0.0, 0.0, 1.0]
 }
 
 // ---- the probes with one triangle
 fn one(label: &[u8], r: Ray) {
-    let mesh = probe();
-    let materials = [70u32];
-    let index = [0u32];
-    let boxes = [0.0, 0.0, 0.0, 1.0, 1.0, 0.0];
-    let links = [0u32, 1, 1];
     show(
         label,
-        walk::walk(&mesh, &materials, &index, &boxes, &links, r),
+        walk::walk(&lent(&PROBE, &[70], &[0], &PROBE_BOX, &LEAF), r),
     );
 }
 
@@ -161,10 +153,7 @@ fn probes() {
     one(b"P7 at 2^-20", down(0.25, 0.25, 9.5367431640625e-7));
     one(b"P7 at 2^-19", down(0.25, 0.25, 1.9073486328125e-6));
     one(b"zero direction", ray(0.25, 0.25, 0.0, 0.0, 0.0, 0.0));
-    one(
-        b"origin NaN",
-        down(float::from_bits(0x7ff8_0000_0000_0000), 0.25, 1.0),
-    );
+    one(b"origin NaN", down(nan(), 0.25, 1.0));
     one(b"origin over 2^40", down(0.25, 0.25, 1099511627777.0));
     one(b"direction over 2", ray(0.25, 0.25, 1.0, 0.0, 0.0, -2.5));
     one(
@@ -175,20 +164,20 @@ fn probes() {
 
 // ---- P10's mesh and tree
 fn wide(label: &[u8], r: Ray) {
-    let one = upward([0.0; 60], 0, 0.0, 0.0, 3.0);
-    let two = upward(one, 12, 16.0, 0.0, 3.0);
-    let three = upward(two, 24, 32.0, 0.0, 3.0);
-    let four = upward(three, 36, 48.0, 0.0, 3.0);
-    let mesh = upward(four, 48, 64.0, 0.0, 3.0);
-    let materials = [80u32, 81, 82, 83, 84];
-    let index = [0u32, 1, 3, 4, 2];
-    let whole = spanned([0.0; 18], 0, 0.0, 67.0, 3.0, 0.0);
-    let left = spanned(whole, 6, 0.0, 19.0, 3.0, 0.0);
-    let boxes = spanned(left, 12, 32.0, 67.0, 3.0, 0.0);
-    let links = [1u32, 0, 0, 0, 2, 1, 2, 3, 1];
+    let mesh = [0.0, 16.0, 32.0, 48.0, 64.0].map(|x| upward(x, 0.0, 3.0));
+    let materials = [80, 81, 82, 83, 84];
+    let index = [0, 1, 3, 4, 2];
+    let boxes = [
+        0.0, 0.0, 0.0, 67.0, 3.0, 0.0, 0.0, 0.0, 0.0, 19.0, 3.0, 0.0, 32.0, 0.0, 0.0, 67.0, 3.0,
+        0.0,
+    ];
+    let links = [1, 0, 0, 0, 2, 1, 2, 3, 1];
     show(
         label,
-        walk::walk(&mesh, &materials, &index, &boxes, &links, r),
+        walk::walk(
+            &lent(mesh.as_flattened(), &materials, &index, &boxes, &links),
+            r,
+        ),
     );
 }
 
@@ -197,17 +186,7 @@ fn split() {
     wide(b"P12", down(25.0, 1.0, 1.0));
     wide(b"P10 right leaf", down(33.0, 1.0, 1.0));
     wide(b"P10 outside", down(-1.0, 1.0, 1.0));
-    wide(
-        b"P10 direction NaN",
-        ray(
-            17.0,
-            1.0,
-            1.0,
-            0.0,
-            0.0,
-            float::from_bits(0x7ff8_0000_0000_0000),
-        ),
-    );
+    wide(b"P10 direction NaN", ray(17.0, 1.0, 1.0, 0.0, 0.0, nan()));
 }
 
 // ---- what is refused before the first step
@@ -220,33 +199,17 @@ fn cut(
     bounds: usize,
     words: usize,
     r: Ray,
-) {
-    let mesh = probe();
-    let materials = [70u32, 71];
-    let index = [0u32];
-    let boxes = [0.0, 0.0, 0.0, 1.0, 1.0, 0.0];
-    let links = [0u32, 1, 1];
-    if numbers <= 12 {
-        if kinds <= 2 {
-            if entries <= 1 {
-                if bounds <= 6 {
-                    if words <= 3 {
-                        show(
-                            label,
-                            walk::walk(
-                                &mesh[0..numbers],
-                                &materials[0..kinds],
-                                &index[0..entries],
-                                &boxes[0..bounds],
-                                &links[0..words],
-                                r,
-                            ),
-                        );
-                    }
-                }
-            }
-        }
-    }
+)
+    requires { (numbers ≤ 12) × (kinds ≤ 2) × (entries ≤ 1) × (bounds ≤ 6) × (words ≤ 3) }
+{
+    let scene = lent(
+        &PROBE[..numbers],
+        &[70, 71][..kinds],
+        &[0][..entries],
+        &PROBE_BOX[..bounds],
+        &LEAF[..words],
+    );
+    show(label, walk::walk(&scene, r));
 }
 
 fn entrances() {
@@ -270,36 +233,17 @@ fn entrances() {
 
 // ---- bad nodes: the root of two nodes, with its numbers given
 fn root(label: &[u8], low: f64, high: f64, left_or_first: u32, amount: u32, kind: u32) {
-    let mesh = probe();
-    let materials = [70u32];
-    let index = [0u32];
     let boxes = [0.0, 0.0, low, 1.0, 1.0, high, 0.0, 0.0, 0.0, 1.0, 1.0, 0.0];
     let links = [left_or_first, amount, kind, 0, 1, 1];
-    show(
-        label,
-        walk::walk(
-            &mesh,
-            &materials,
-            &index,
-            &boxes,
-            &links,
-            down(0.25, 0.25, 1.0),
-        ),
-    );
+    let scene = lent(&PROBE, &[70], &[0], &boxes, &links);
+    show(label, walk::walk(&scene, down(0.25, 0.25, 1.0)));
 }
 
 fn nodes() {
     root(b"kind 2", 0.0, 0.0, 0, 1, 2);
     root(b"kind 2^32 - 1", 0.0, 0.0, 0, 1, 4294967295);
     root(b"internal with count 1", 0.0, 0.0, 0, 1, 0);
-    root(
-        b"box with a NaN",
-        float::from_bits(0x7ff8_0000_0000_0000),
-        0.0,
-        0,
-        1,
-        1,
-    );
+    root(b"box with a NaN", nan(), 0.0, 0, 1, 1);
     root(b"box upside down", 1.0, 0.0, 0, 1, 1);
     root(b"box over 2^40", 0.0, 1099511627777.0, 0, 1, 1);
     root(b"box at 2^40", 0.0, 1099511627776.0, 0, 1, 1);
@@ -321,43 +265,20 @@ fn nodes() {
 
 // The tree of no triangles (rule C3).
 fn vacant(label: &[u8], r: Ray) {
-    let mesh = probe();
-    let materials = [70u32];
-    let index = [0u32];
     let i = float::infinity();
     let boxes = [i, i, i, -i, -i, -i];
-    let links = [0u32, 0, 1];
     show(
         label,
-        walk::walk(
-            &mesh[0..0],
-            &materials[0..0],
-            &index[0..0],
-            &boxes,
-            &links,
-            r,
-        ),
+        walk::walk(&lent(&[], &[], &[], &boxes, &[0, 0, 1]), r),
     );
 }
 
 // ---- leaves and their entries: one leaf over two entries
 fn leaf(label: &[u8], first: u32, amount: u32, entry: u32, other: u32) {
-    let mesh = probe();
-    let materials = [70u32];
     let index = [entry, other];
-    let boxes = [0.0, 0.0, 0.0, 1.0, 1.0, 0.0];
     let links = [first, amount, 1];
-    show(
-        label,
-        walk::walk(
-            &mesh,
-            &materials,
-            &index,
-            &boxes,
-            &links,
-            down(0.25, 0.25, 1.0),
-        ),
-    );
+    let scene = lent(&PROBE, &[70], &index, &PROBE_BOX, &links);
+    show(label, walk::walk(&scene, down(0.25, 0.25, 1.0)));
 }
 
 fn leaves() {
@@ -379,69 +300,47 @@ fn leaves() {
 }
 
 // ---- triangles that are not admitted: two triangles, the second with three of its numbers given
-fn changed(mesh: [f64; 60], v1_y: f64, v2_z: f64, normal_z: f64) -> [f64; 60] {
-    let mut more = mesh;
-    more[16] = v1_y;
-    more[20] = v2_z;
-    more[23] = normal_z;
-    more
-}
-
 fn second(label: &[u8], v1_y: f64, v2_z: f64, normal_z: f64, entry: u32, other: u32) {
-    let one = upward([0.0; 60], 0, 0.0, 0.0, 1.0);
-    let two = upward(one, 12, 0.0, 0.0, 1.0);
-    let mesh = changed(two, v1_y, v2_z, normal_z);
-    let materials = [70u32, 71];
+    let mut mesh = [upward(0.0, 0.0, 1.0); 2];
+    mesh[1][4] = v1_y;
+    mesh[1][8] = v2_z;
+    mesh[1][11] = normal_z;
     let index = [entry, other];
-    let boxes = [0.0, 0.0, 0.0, 1.0, 1.0, 0.0];
-    let links = [0u32, 2, 1];
-    show(
-        label,
-        walk::walk(
-            &mesh[0..24],
-            &materials,
-            &index,
-            &boxes,
-            &links,
-            down(0.25, 0.25, 1.0),
-        ),
+    let scene = lent(
+        mesh.as_flattened(),
+        &[70, 71],
+        &index,
+        &PROBE_BOX,
+        &[0, 2, 1],
     );
+    show(label, walk::walk(&scene, down(0.25, 0.25, 1.0)));
 }
 
 fn triangles() {
-    let nan = float::from_bits(0x7ff8_0000_0000_0000);
-    second(b"vertex NaN", nan, 0.0, 1.0, 0, 1);
+    second(b"vertex NaN", nan(), 0.0, 1.0, 0, 1);
     second(b"vertex over 2^40", 0.0, -1099511627777.0, 1.0, 0, 1);
     second(b"normal over 2", 0.0, 0.0, 2.5, 1, 0);
     second(b"normal of 2", 0.0, 0.0, 2.0, 1, 1);
-    second(b"not admitted, not met", nan, 0.0, 1.0, 0, 0);
-    second(b"5 before 10", nan, 0.0, 1.0, 1, 2);
-    second(b"10 before 5", nan, 0.0, 1.0, 2, 1);
+    second(b"not admitted, not met", nan(), 0.0, 1.0, 0, 0);
+    second(b"5 before 10", nan(), 0.0, 1.0, 1, 2);
+    second(b"10 before 5", nan(), 0.0, 1.0, 2, 1);
     second(b"normal turned", 0.0, 0.0, -1.0, 1, 1);
 }
 
 // ---- looping trees: every node internal, its children 0 and 1
-fn loop_of(label: &[u8], amount: usize) {
-    let mesh = probe();
-    let materials = [70u32];
-    let index = [0u32];
+fn loop_of(label: &[u8], amount: usize)
+    requires { amount ≤ 66 }
+{
     let boxes = [0.0; 396];
-    let links = [0u32; 198];
-    if amount <= 66 {
-        let numbers = amount * 6;
-        let words = amount * 3;
-        show(
-            label,
-            walk::walk(
-                &mesh,
-                &materials,
-                &index,
-                &boxes[0..numbers],
-                &links[0..words],
-                down(0.0, 0.0, 1.0),
-            ),
-        );
-    }
+    let links = [0; 198];
+    let scene = lent(
+        &PROBE,
+        &[70],
+        &[0],
+        &boxes[..amount * 6],
+        &links[..amount * 3],
+    );
+    show(label, walk::walk(&scene, down(0.0, 0.0, 1.0)));
 }
 
 fn loops() {
@@ -457,44 +356,30 @@ fn loops() {
 
 // The root opens node 1, a leaf with a hit, and node 2, with its numbers given.
 fn shared(label: &[u8], left_or_first: u32, amount: u32, kind: u32) {
-    let mesh = probe();
-    let materials = [70u32];
-    let index = [0u32];
-    let boxes = alike(0.0);
-    let links = [1u32, 0, 0, 0, 1, 1, left_or_first, amount, kind];
-    show(
-        label,
-        walk::walk(
-            &mesh,
-            &materials,
-            &index,
-            &boxes,
-            &links,
-            down(0.25, 0.25, 1.0),
-        ),
-    );
+    let boxes = [PROBE_BOX; 3];
+    let links = [1, 0, 0, 0, 1, 1, left_or_first, amount, kind];
+    let scene = lent(&PROBE, &[70], &[0], boxes.as_flattened(), &links);
+    show(label, walk::walk(&scene, down(0.25, 0.25, 1.0)));
 }
 
 // ---- ties: two triangles at the same t, in two leaves; the lower number wins, whichever is met first
 fn tie(label: &[u8], left: u32, right: u32) {
-    let one = upward([0.0; 60], 0, 0.0, 0.0, 1.0);
-    let two = upward(one, 12, 0.0, 0.0, 1.0);
-    let mesh = upward(two, 24, 0.0, 0.5, 1.0);
-    let materials = [70u32, 71, 72];
+    let mesh = [
+        upward(0.0, 0.0, 1.0),
+        upward(0.0, 0.0, 1.0),
+        upward(0.0, 0.5, 1.0),
+    ];
     let index = [left, right];
-    let boxes = alike(0.5);
-    let links = [1u32, 0, 0, 0, 1, 1, 1, 1, 1];
-    show(
-        label,
-        walk::walk(
-            &mesh[0..36],
-            &materials,
-            &index,
-            &boxes,
-            &links,
-            down(0.25, 0.25, 1.0),
-        ),
+    let boxes = [[0.0, 0.0, 0.0, 1.0, 1.0, 0.5]; 3];
+    let links = [1, 0, 0, 0, 1, 1, 1, 1, 1];
+    let scene = lent(
+        mesh.as_flattened(),
+        &[70, 71, 72],
+        &index,
+        boxes.as_flattened(),
+        &links,
     );
+    show(label, walk::walk(&scene, down(0.25, 0.25, 1.0)));
 }
 
 fn ties() {
@@ -505,69 +390,57 @@ fn ties() {
 }
 
 // ---- skies: a hit, a ray that isn't admitted and a miss over the triangle T, with so many numbers of rays and of answer room, 9 before
-fn place(times: [f64; 12], told: [u64; 20], k: usize)
-    requires { k ≤ 3 }
+fn sky(label: &[u8], kinds: usize, numbers: usize, timed: usize, words: usize)
+    requires { (kinds ≤ 2) × (numbers ≤ 18) × (timed ≤ 12) × (words ≤ 20) }
 {
-    io::write_all(1, b",");
-    let from = 3 * k;
-    number(times[from]);
-    number(times[from + 1]);
-    number(times[from + 2]);
-    let at = 5 * k;
-    count(told[at]);
-    count(told[at + 1]);
-    count(told[at + 2]);
-    count(told[at + 3]);
-    count(told[at + 4]);
-}
-
-fn sky(label: &[u8], kinds: usize, numbers: usize, timed: usize, words: usize) {
-    let mesh = probe();
-    let materials = [70u32, 71];
-    let index = [0u32];
-    let boxes = [0.0, 0.0, 0.0, 1.0, 1.0, 0.0];
-    let links = [0u32, 1, 1];
-    let nan = float::from_bits(0x7ff8_0000_0000_0000);
     let rays = [
-        0.25, 0.25, 1.0, 0.0, 0.0, -1.0, nan, 0.25, 1.0, 0.0, 0.0, -1.0, 2.0, 0.25, 1.0, 0.0, 0.0,
+        0.25,
+        0.25,
+        1.0,
+        0.0,
+        0.0,
+        -1.0,
+        nan(),
+        0.25,
+        1.0,
+        0.0,
+        0.0,
+        -1.0,
+        2.0,
+        0.25,
+        1.0,
+        0.0,
+        0.0,
         -1.0,
     ];
     let mut times = [9.0; 12];
-    let mut told = [9u64; 20];
-    if numbers <= 18 {
-        if timed <= 12 {
-            if words <= 20 {
-                if kinds <= 2 {
-                    io::write_all(1, label);
-                    match sky::sky(
-                        &mesh,
-                        &materials[0..kinds],
-                        &index,
-                        &boxes,
-                        &links,
-                        &rays[0..numbers],
-                        &mut times[0..timed],
-                        &mut told[0..words],
-                    ) {
-                        Filled::Places => {
-                            io::write_all(1, b": places");
-                        }
-                        Filled::Refused { number, at } => {
-                            io::write_all(1, b": refused");
-                            count(number as u64);
-                            io::write_all(1, b" at");
-                            count(at);
-                        }
-                    }
-                    place(times, told, 0);
-                    place(times, told, 1);
-                    place(times, told, 2);
-                    place(times, told, 3);
-                    io::write_all(1, b"\n");
-                }
-            }
+    let mut told = [9; 20];
+    let materials = [70, 71];
+    let scene = lent(&PROBE, &materials[..kinds], &[0], &PROBE_BOX, &LEAF);
+    io::write_all(1, label);
+    match sky::sky(
+        &scene,
+        &rays[..numbers],
+        &mut times[..timed],
+        &mut told[..words],
+    ) {
+        Ok(()) => {
+            io::write_all(1, b": places");
+        }
+        Err(why) => {
+            refused(why);
         }
     }
+    for (three, five) in times.chunks_exact(3).zip(told.chunks_exact(5)) {
+        io::write_all(1, b",");
+        for x in three.iter() {
+            number(*x);
+        }
+        for n in five.iter() {
+            count(*n);
+        }
+    }
+    io::write_all(1, b"\n");
 }
 
 fn skies() {

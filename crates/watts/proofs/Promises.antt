@@ -9,9 +9,8 @@ use Rattle.tree.specs.Lent.{Lent}
 use Rattle.sky.specs.Sky.{ray_count}
 use Rattle.watts.specs.declared.fraction.Terms.{Terms}
 use Rattle.watts.specs.declared.sums.Figures.{Figures}
-use Rattle.watts.specs.declared.Counted.TheVariants.{Report}
 use Rattle.watts.specs.Share.{share}
-use Rattle.watts.specs.Watts.{figures, outcome_for, report, figures_for, Outcome, watts}
+use Rattle.watts.specs.Watts.{Report, figures, outcome_for, report, figures_for, Outcome, watts}
 use Rattle.watts.specs.Report.{Promised}
 use Rattle.watts.proofs.LowestTerms.{nothing_answered, share_lowest, share_there}
 use Rattle.watts.proofs.Weights.{figures_whole, figures_small, figures_total}

@@ -9,15 +9,13 @@ use lib.Ieee.{Float}
 use Rattle.lent.specs.Limits.{most_rays}
 use Rattle.lent.specs.Ladder.{Refusal, none, numbered, Check, first_failed, answered, unless}
 use Rattle.lent.proofs.Ladder.{ends, goes, serves, judges, judged, further, both_passed, each_passed, agree, agreed, not_below}
-use Rattle.tree.specs.Lent.{Lent}
+use Rattle.tree.specs.Lent.{Mesh, Lent}
 use Rattle.sky.specs.declared.Place.{Place}
 use Rattle.sky.specs.Sky.{ray_count, Filling, filled, sky_checks, sky}
 use Rattle.sky.proofs.Room.{Passed, passed, none_fails, served_is, place_filled}
 use Rattle.watts.specs.declared.fraction.Terms.{Terms}
 use Rattle.watts.specs.declared.sums.Figures.{Figures}
-use Rattle.watts.specs.declared.Counted.{Counted}
-use Rattle.watts.specs.declared.Counted.TheVariants.{Report, Refused}
-use Rattle.watts.specs.Watts.{figures, outcome_for, outcome_at, figures_for, outcome, report, weight_checks, watts_checks, watts}
+use Rattle.watts.specs.Watts.{Counted, Report, Refused, figures, outcome_for, outcome_at, figures_for, outcome, report, weight_checks, watts_checks, watts}
 use Rattle.watts.specs.Cut.{Served}
 use Rattle.watts.proofs.Weights.{figures_same}
 
@@ -48,14 +46,12 @@ module _ (s : Lent) (rays : List Float) (weights : List ℕ) (times : List Float
       record { sky = passed s.mesh rays times told b.0; matched = agreed e.0; within = ltb-false _ _ e.1.0 }
 
   -- ---- the returns
-  -- what is first of the two judgements is the first check of all that fails
-  pub first_of : (a b c : Refusal) → a ≡ first_failed first → b ≡ first_failed own → c ≡ answered a numbered b → c ≡ first_failed (watts_checks s rays weights times told)
-  unfolding watts_checks
-  first_of a b c p q e = e ∙ (λ i. answered (p i) numbered (q i)) ∙ sym (further first own)
-
-  pub watts_refused : (number at : ℕ) → first_failed (watts_checks s rays weights times told) ≡ numbered number at → outcome (Refused number at) times told ≡ watts s rays weights times told
-  unfolding watts answered
-  watts_refused number at p = ends (judged (numbered number at) (sym p) refl)
+  -- where both judgements pass, no check of all fails
+  pub both_pass : (m : Mesh) → m ≡ s.mesh → none ≡ first_failed (sky_checks m rays times told) → none ≡ first_failed own → Served s rays weights times told
+  unfolding watts_checks answered
+  both_pass m e p q =
+      further first own
+      ∙ (λ i. answered (sym (p ∙ ap (λ (m : Mesh). first_failed (sky_checks m rays times told)) e) i) numbered (sym q i))
 
   abbrev times_left : List Float
   times_left = (filled s rays (ray_count rays) times told).times

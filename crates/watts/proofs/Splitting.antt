@@ -19,10 +19,8 @@ use Rattle.walk.specs.Walk.{walk}
 use Rattle.sky.specs.Sky.{ray_count, place_of, place_for, told_of, told_for, times_of, times_for, filled}
 use Rattle.watts.specs.declared.fraction.Terms.{Terms}
 use Rattle.watts.specs.declared.sums.Figures.{Figures}
-use Rattle.watts.specs.declared.Counted.{Counted}
-use Rattle.watts.specs.declared.Counted.TheVariants.{Report}
 use Rattle.watts.specs.Share.{share}
-use Rattle.watts.specs.Watts.{figured, figures, outcome_for, figures_for, report, Outcome, watts}
+use Rattle.watts.specs.Watts.{Counted, Report, figured, figures, outcome_for, figures_for, report, Outcome, watts}
 use Rattle.watts.specs.Cut.{Served, first_rays, other_rays, added, joined, Joined, Part, AreAll, Roomy, parts_figures, parts_answer, parts_times, parts_told, Together}
 use Rattle.watts.proofs.Weights.{figures_same, figures_cut}
 use Rattle.watts.proofs.Serving.{served, asked, watts_served}

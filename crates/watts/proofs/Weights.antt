@@ -9,7 +9,6 @@ use native.Mathlib.Numerals.{add-one}
 use lib.Dec.{eqb}
 use lib.ListN.{length, get_or, take, drop}
 use lib.Seq.{get_or-drop, take-suc, take-length}
-use borrow.Author.Tests.{eq-eqb, ne_eqb}
 use Rattle.lent.specs.Limits.{most_rays}
 use Rattle.watts.specs.declared.sums.Figures.{Figures}
 use Rattle.watts.specs.Watts.{figured, weighed, figures, outcome_at}
@@ -21,18 +20,6 @@ abbrev pub parted : Bool → Bool → Figures → ℕ → Figures
 parted hit miss f w =
     cond hit (figured (f.shaded + w) f.«open» f.refused (f.total + w))
     (cond miss (figured f.shaded (f.«open» + w) f.refused (f.total + w)) (figured f.shaded f.«open» (f.refused + w) (f.total + w)))
-
-pub weighed_hit : (f : Figures) (o w : ℕ) → o ≡ 100 → parted true false f w ≡ weighed f o w
-unfolding weighed
-weighed_hit f o w e = rw (eq-eqb o 100 e)
-
-pub weighed_miss : (f : Figures) (o w : ℕ) → (o ≡ 100 → ⊥) → o ≡ 0 → parted false true f w ≡ weighed f o w
-unfolding weighed
-weighed_miss f o w h e = rw (ne_eqb o 100 h, eq-eqb o 0 e)
-
-pub weighed_refused : (f : Figures) (o w : ℕ) → (o ≡ 100 → ⊥) → (o ≡ 0 → ⊥) → parted false false f w ≡ weighed f o w
-unfolding weighed
-weighed_refused f o w h k = rw (ne_eqb o 100 h, ne_eqb o 0 k)
 
 parted_whole : (hit miss : Bool) (f : Figures) (w : ℕ) → f.shaded + f.«open» + f.refused ≡ f.total
     → (parted hit miss f w).shaded + (parted hit miss f w).«open» + (parted hit miss f w).refused ≡ (parted hit miss f w).total
@@ -106,10 +93,6 @@ pub told_step : (told weights : List ℕ) (k : ℕ) (s r : Figures) → s ≡ fi
     → r ≡ figures (outcome_at told) weights (k + 1)
 unfolding outcome_at
 told_step told weights k s r p q = q ∙ ap (λ (z : Figures). weighed z (get_or told (k * 5) 0) (get_or weights k 0)) p ∙ figures_more (outcome_at told) weights k
-
-pub none_yet : (f : ℕ → ℕ) (w : List ℕ) → figured 0 0 0 0 ≡ figures f w 0
-unfolding figures
-none_yet f w = refl
 
 -- ---- total watts are the sum of the weights given
 sum_more : (ws : List ℕ) (w : ℕ) → sum (ws ++ (w ∷ [])) ≡ sum ws + w

@@ -4,9 +4,7 @@ use Rattle.lent.specs.Ladder.{none, first_failed}
 use Rattle.tree.specs.Lent.{Lent}
 use Rattle.sky.specs.Sky.{ray_count}
 use Rattle.watts.specs.declared.sums.Figures.{Figures}
-use Rattle.watts.specs.declared.Counted.{Counted}
-use Rattle.watts.specs.declared.Counted.TheVariants.{Report, Refused}
-use Rattle.watts.specs.Watts.{figured, figures_for, report, Outcome, watts_checks, watts}
+use Rattle.watts.specs.Watts.{Counted, Report, Refused, figured, figures_for, report, Outcome, watts_checks, watts}
 
 -- no check of the call fails
 abbrev pub Served : Lent → List Float → List ℕ → List Float → List ℕ → Type 0

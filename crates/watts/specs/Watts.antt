@@ -1,12 +1,14 @@
 -- The watts of a sky of rays (rules Q1 to Q4), through the sky's own definitions. Definitions only.
-use Rattle.std.specs.Prelude.{ℕ, zero, suc, ◌+◌, ◌*◌, not, cond, List, [], ◌∷◌, ◌++◌, ltb, eqb, length, get_or, Float}
+use Rattle.std.specs.Prelude.{ℕ, zero, suc, ◌+◌, ◌*◌, not, cond, List, [], ◌∷◌, ◌++◌, ltb, eqb, length, get_or, Float, Result, Ok, Err}
 use Rattle.lent.specs.Limits.{most_rays}
 use Rattle.lent.specs.Ladder.{Refusal, none, numbered, Check, check, unless}
 use Rattle.tree.specs.Lent.{Lent}
 use Rattle.sky.specs.Sky.{ray_count, place_for, filled, sky_checks}
 use Rattle.watts.specs.declared.sums.Figures.{Figures}
-use Rattle.watts.specs.declared.Counted.{Counted}
-use Rattle.watts.specs.declared.Counted.TheVariants.{Report, Refused}
+use Rattle.lent.specs.Refusals.{number as reason_number}
+use Rattle.lent.specs.declared.refusal.Refused.{Refused as Why}
+use Rattle.watts.specs.declared.fraction.Terms.{Terms}
+use Rattle.watts.specs.declared.Report.{Report as Sheet}
 use Rattle.watts.specs.Share.{share}
 
 -- ---- the four figures
@@ -37,7 +39,16 @@ abbrev pub figures_for : Lent → List Float → List ℕ → Figures
 figures_for s rays weights = figures (outcome_for s rays) weights (ray_count rays)
 
 -- ---- the call
--- its answer: a report, or the refusal of the whole call
+-- its answer: a report, or the refusal of the whole call, its number and its `at`
+pub data Counted : Type 0 where
+  Report : Figures → Terms → Counted
+  Refused : ℕ → ℕ → Counted
+
+-- as the code answers it
+abbrev pub counted : Result Sheet Why → Counted
+counted (Ok r) = Report r.figures r.share
+counted (Err r) = Refused (reason_number r.reason) r.at
+
 unfoldable pub watts_refusal : Counted → Refusal
 watts_refusal (Report f r) = none
 watts_refusal (Refused number at) = numbered number at

@@ -13,40 +13,36 @@ pub struct Figures {
 }
 
 // One ray more, of this outcome and weight.
+#[tactic(auto, unfolding(crate::specs::Watts::weighed))]
 fn weighed(sums: Figures, outcome: u64, weight: u32) -> Figures
     requires { (sums.shaded < 2 ^ 62) × (sums.«open» < 2 ^ 62) × (sums.refused < 2 ^ 62) × (sums.total < 2 ^ 62) }
     ensures { result ≡ weighed sums outcome weight }
 {
-    let watts = weight as u64;
-    let shaded = sums.shaded + watts;
-    let open = sums.open + watts;
-    let refused = sums.refused + watts;
+    let watts = u64::from(weight);
     let total = sums.total + watts;
     if outcome == 100 {
-        return Figures {
-            shaded,
-            open: sums.open,
-            refused: sums.refused,
+        Figures {
+            shaded: sums.shaded + watts,
             total,
-        };
-    }
-    if outcome == 0 {
-        return Figures {
-            shaded: sums.shaded,
-            open,
-            refused: sums.refused,
+            ..sums
+        }
+    } else if outcome == 0 {
+        Figures {
+            open: sums.open + watts,
             total,
-        };
-    }
-    Figures {
-        shaded: sums.shaded,
-        open: sums.open,
-        refused,
-        total,
+            ..sums
+        }
+    } else {
+        Figures {
+            refused: sums.refused + watts,
+            total,
+            ..sums
+        }
     }
 }
 
 // The figures of the first n places, with the weights of their rays. No sum wraps: n weights below 2^32 are below 2^52 together.
+#[tactic(auto, unfolding(crate::specs::Watts::figures))]
 pub fn summed(told: &[u64], weights: &[u32], n: usize) -> Figures
     requires { (n * 5 ≤ length told.now) × (n ≤ length weights.now) × (n ≤ most_rays) }
     ensures { result ≡ figures (outcome_at told.now) weights.now n }
@@ -57,12 +53,8 @@ pub fn summed(told: &[u64], weights: &[u32], n: usize) -> Figures
         refused: 0,
         total: 0,
     };
-    let mut k: usize = 0;
-    while k < n {
-        let outcome = told[k * 5];
-        let weight = weights[k];
-        sums = weighed(sums, outcome, weight);
-        k += 1;
+    for k in 0..n {
+        sums = weighed(sums, told[k * 5], weights[k]);
     }
     sums
 }

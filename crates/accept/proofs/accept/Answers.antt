@@ -1,52 +1,35 @@
--- Each return is the check of the ladder that fails, or the conditions' verdict with the room zeroed. Assumes nothing.
+-- A check that fails is answered, and else the conditions' verdict with the room zeroed. Assumes nothing.
 use mathlib.Core.Path.{refl, sym, ◌∙◌, ap}
-use Prim.Native.Nat.{ℕ}
-use lib.ListN.{replicate}
-use Rattle.lent.proofs.Ladder.{ends, goes, stops, agree, differ, below, not_below}
-use Rattle.triangle.proofs.Admitting.{bad_at, none_bad}
+use Prim.Native.Nat.{ℕ, ◌+◌}
+use lib.ListN.{length, replicate}
+use borrow.Author.Tests.{ltb-false}
+use Rattle.std.proofs.lemmas.Result.{err_from_is_err_and}
+use Rattle.lent.specs.Ladder.{none, triangle_count, answered}
+use Rattle.lent.specs.Refusals.{refusal}
+use Rattle.lent.proofs.Ladder.{ends, judged, each_passed}
+use Rattle.tree.specs.Lent.{node_count}
 use Rattle.tree.proofs.Fitted.{fitting}
-use Rattle.accept.specs.Accept.{ruling, accepted}
+use Rattle.accept.specs.Conditions.{foreign}
+use Rattle.accept.specs.Accept.{ruling, checks, accepted}
 use Rattle.accept.proofs.Verdicts.{both_are}
 use Rattle.accept.proofs.accept.Goals as goal
 
-pub returns-then-numbers-ne0 : goal.returns-then-numbers-ne0
-unfolding accepted ruling
-returns-then-numbers-ne0 c = ends (stops (differ c.if-numbers-ne0.true) refl)
-
-pub returns-then-n-gt-MOST_TRIANGLES : goal.returns-then-n-gt-MOST_TRIANGLES
-unfolding accepted ruling
-returns-then-n-gt-MOST_TRIANGLES c = ends (goes (agree c.if-numbers-ne0.false) (stops (below c.if-n-gt-MOST_TRIANGLES.true) refl))
-
-pub returns-then-misfit : goal.returns-then-misfit
-unfolding accepted ruling
-returns-then-misfit c =
-    ends (goes (agree c.if-numbers-ne0.false) (goes (not_below c.if-n-gt-MOST_TRIANGLES.false) (stops (sym c.misfit.ensures ∙ c.if-misfit.true) refl)))
-
-pub returns-then-work-links : goal.returns-then-work-links
-unfolding accepted ruling
-returns-then-work-links c =
-    ends
-    (goes (agree c.if-numbers-ne0.false) (goes (not_below c.if-n-gt-MOST_TRIANGLES.false) (goes (sym c.misfit.ensures ∙ c.if-misfit.false) (stops (below c.if-work-links.true) refl))))
-
-pub returns-in-At : goal.returns-in-At
-unfolding accepted ruling
-returns-in-At c =
-    ends
-    (goes (agree c.if-numbers-ne0.false)
-    (goes (not_below c.if-n-gt-MOST_TRIANGLES.false)
-    (goes (sym c.misfit.ensures ∙ c.if-misfit.false) (goes (not_below c.if-work-links.false) (bad_at (sym c.first_refused.ensures ∙ c.in-At.is) refl)))))
+pub returns-in_err-fitting : goal.returns-in_err-fitting
+unfolding accepted ruling answered
+returns-in_err-fitting c =
+    let p = err_from_is_err_and c.from_residual.result c.from_residual.ensures.1 in
+    rw (p.1, p.2) (ends (judged (refusal c.in_err-fitting.field-0.0) c.in_err-fitting.ensures refl))
 
 pub judge-verdict-requires : goal.judge-verdict-requires
 judge-verdict-requires c =
-    let h = fitting _ _ (sym c.misfit.ensures ∙ c.if-misfit.false) in
-    (h.0, h.1, c.if-work-links.false)
+    let a = c.args in
+    let t = a.tree.now in
+    let q = each_passed (checks (foreign a.triangles.now t.index t.boxes t.links) (length a.work.now)) (sym c.in_ok-fitting.ensures) in
+    let h = fitting _ _ q.1.1.0 in
+    (h.0, h.1, ltb-false (length a.work.now) (node_count t.links + triangle_count a.triangles.now) q.1.1.1.0)
 
 pub returns : goal.returns
-unfolding accepted
+unfolding accepted answered
 returns c =
-    ends
-    (goes (agree c.if-numbers-ne0.false)
-    (goes (not_below c.if-n-gt-MOST_TRIANGLES.false)
-    (goes (sym c.misfit.ensures ∙ c.if-misfit.false)
-    (goes (not_below c.if-work-links.false)
-    (none_bad (sym c.first_refused.ensures ∙ c.in_default.is) (both_are c.judge-verdict.ensures.value (c.fill.ensures ∙ ap (λ (n : ℕ). replicate n 0) c.judge-verdict.ensures.work_len_unchanged)))))))
+    let e = c.judge-verdict.ensures in
+    ends (judged none c.in_ok-fitting.ensures (both_are e.value (c.fill.ensures.after (λ y e. e) ∙ ap (λ (n : ℕ). replicate n 0) e.work_len_unchanged)))

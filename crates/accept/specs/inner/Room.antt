@@ -2,7 +2,7 @@
 use Rattle.std.specs.Prelude.{ℕ, zero, suc, ◌+◌, ◌*◌, ◌-◌, ◌<◌, ◌≡◌, Bool, not, ◌&&◌, ◌||◌, cond, List, eqb, length, get_or}
 use Rattle.lent.specs.Limits.{deepest}
 use Rattle.tree.specs.Lent.{node_count}
-use Rattle.accept.specs.Lowest.{tick, count}
+use Rattle.accept.specs.Count.{tick, count}
 
 -- ---- a node's links
 abbrev pub first_at : List ℕ → ℕ → ℕ

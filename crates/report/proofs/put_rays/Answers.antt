@@ -15,7 +15,7 @@ pub loop-k-preserved : goal.loop-k-preserved
 loop-k-preserved c =
     let l = c.loop-k in
     let r = c.ray-ray in
-    let w = c.walk-answer in
+    let w = c.walk in
     let p = c.put_ray-next in (
       omega (arith, c.loop-k-test.true),
       p.auto.out ∙ l.invariant.1,

@@ -1,5 +1,5 @@
 -- Each return is a step of the ladder. Assumes nothing.
-use mathlib.Core.Path.{◌∙◌}
+use mathlib.Core.Path.{sym, ◌∙◌}
 use Prim.Native.Nat.{◌+◌, ◌-◌, ◌*◌, ◌/◌}
 use native.Mathlib.Omega.{arith}
 use lib.ListN.{length}
@@ -23,23 +23,23 @@ returns-then-n-gt-MOST_TRIANGLES c =
     let a = c.args in
     too_many a.triangles.now a.file.now c.if-triangles-ne0.false c.if-n-gt-MOST_TRIANGLES.true
 
-pub returns-in-At : goal.returns-in-At
+pub returns-in-Some : goal.returns-in-Some
 unfolding told
-returns-in-At c =
+returns-in-Some c =
     let a = c.args in
-    unfit a.triangles.now a.file.now c.if-triangles-ne0.false c.if-n-gt-MOST_TRIANGLES.false c.first_refused-bad.result c.first_refused-bad.ensures c.in-At.i c.in-At.is
+    unfit a.triangles.now a.file.now c.if-triangles-ne0.false c.if-n-gt-MOST_TRIANGLES.false c.first_refused.result c.first_refused.ensures _ c.in-Some.is
 
-pub returns-then-inexact-n : goal.returns-then-inexact-n
+pub returns-in-Some-first_inexact : goal.returns-in-Some-first_inexact
 unfolding told
-returns-then-inexact-n c =
+returns-in-Some-first_inexact c =
     let a = c.args in
-    not_exact a.triangles.now a.file.now c.if-triangles-ne0.false c.if-n-gt-MOST_TRIANGLES.false c.first_refused-bad.result c.first_refused-bad.ensures c.in_default.is c.first_inexact-inexact.result c.first_inexact-inexact.ensures c.if-inexact-n.true
+    not_exact a.triangles.now a.file.now c.if-triangles-ne0.false c.if-n-gt-MOST_TRIANGLES.false c.first_refused.result c.first_refused.ensures c.in_default.is c.first_inexact.result c.first_inexact.ensures _ c.in-Some-first_inexact.is
 
 pub returns-then-file-whole : goal.returns-then-file-whole
 unfolding told
 returns-then-file-whole c =
     let a = c.args in
-    room a.triangles.now a.file.now c.if-triangles-ne0.false c.if-n-gt-MOST_TRIANGLES.false c.first_refused-bad.result c.first_refused-bad.ensures c.in_default.is c.first_inexact-inexact.result c.first_inexact-inexact.ensures c.if-inexact-n.false c.if-file-whole.true
+    room a.triangles.now a.file.now c.if-triangles-ne0.false c.if-n-gt-MOST_TRIANGLES.false c.first_refused.result c.first_refused.ensures c.in_default.is c.first_inexact.result c.first_inexact.ensures c.in_default-first_inexact.is c.if-file-whole.true
 
 pub put_file-requires : goal.put_file-requires
 put_file-requires c =
@@ -47,7 +47,7 @@ put_file-requires c =
     let n = length a.triangles.now / 12 in (
       c.if-n-gt-MOST_TRIANGLES.false,
       length-take-le (84 + 50 * n - 0) a.file.now (omega (arith, c.if-file-whole.false)) ∙ omega arith,
-      λ j h. all_exact a.triangles.now n 0 (omega (arith, c.if-inexact-n.false, c.first_inexact-inexact.ensures)) j (omega arith) (omega (arith, h)),
+      λ j h. all_exact a.triangles.now n 0 j (sym c.first_inexact.ensures ∙ c.in_default-first_inexact.is) (omega arith) (omega (arith, h)),
     )
 
 pub returns : goal.returns
@@ -55,4 +55,4 @@ unfolding told
 returns c =
     let a = c.args in
     let n = length a.triangles.now / 12 in
-    is_written a.triangles.now a.file.now c.if-triangles-ne0.false c.if-n-gt-MOST_TRIANGLES.false c.first_refused-bad.result c.first_refused-bad.ensures c.in_default.is c.first_inexact-inexact.result c.first_inexact-inexact.ensures c.if-inexact-n.false _ c.if-file-whole.false (front_room _ (file_of a.triangles.now n) a.file.now (84 + 50 * n) c.put_file.ensures)
+    is_written a.triangles.now a.file.now c.if-triangles-ne0.false c.if-n-gt-MOST_TRIANGLES.false c.first_refused.result c.first_refused.ensures c.in_default.is c.first_inexact.result c.first_inexact.ensures c.in_default-first_inexact.is _ c.if-file-whole.false (front_room _ (file_of a.triangles.now n) a.file.now (84 + 50 * n) c.put_file.ensures)

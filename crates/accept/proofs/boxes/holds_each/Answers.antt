@@ -1,38 +1,25 @@
--- What is left of the range gives the whole. Assumes nothing.
-use mathlib.Core.Path.{refl, sym, ◌∙◌, ap}
-use Prim.Native.Nat.{ℕ}
-use native.Mathlib.Omega.{arith}
+-- `all` over the places is the definition's recursion over them. Assumes nothing.
+use Rattle.std.proofs.Common.{◌≡◌, ℕ, zero, suc, ◌+◌, ◌-◌, ◌&&◌, Bool, List, Float, get_or, add-one, refl, ◌∙◌, ap, arith, rules, tests}
+use Rattle.std.specs.List.{list_all, range_with_len}
+use Rattle.std.proofs.lemmas.Iterator.{YieldsList-from_range}
+use Rattle.std.proofs.lemmas.Iterator.Search.{all_from_yields_List}
+use Rattle.aabb.specs.declared.bounds.Aabb.{Aabb}
 use Rattle.triangle.specs.Mesh.{triangle_at}
-use Rattle.accept.specs.Conditions.{holds_all}
-use Rattle.accept.proofs.Fills.{each_on, each_no, each_end}
+use Rattle.accept.specs.Conditions.{holds_all, holds_each}
 use Rattle.accept.proofs.boxes.holds_each.Goals as goal
 
-pub loop-left-init : goal.loop-left-init
-loop-left-init c = (refl, refl)
+abbrev held : List Float → List ℕ → Aabb → ℕ → Bool
+held mesh index b p = holds_all b (triangle_at mesh (get_or index p 0))
 
-pub returns-then-not-holds_all : goal.returns-then-not-holds_all
-returns-then-not-holds_all c =
-    let a = c.args in
-    let l = c.loop-left in
-    sym (each_no a.triangles.now a.index.now a.b l.left l.p c.loop-left-test.true (ap (λ (k : ℕ). holds_all a.b (triangle_at a.triangles.now k)) (sym c.word.ensures) ∙ sym c.holds_all.ensures ∙ c.if-not-holds_all.true)) ∙ l.invariant.1
+each : (mesh : List Float) (index : List ℕ) (b : Aabb) (k p : ℕ) → list_all (held mesh index b) (range_with_len p k) ≡ holds_each mesh index b k p
+unfolding holds_each
+each mesh index b zero p = refl
+each mesh index b (suc k) p = rw add-one (ap (λ (t : Bool). held mesh index b p && t) (each mesh index b k (suc p)))
 
-pub overflow_add-p : goal.overflow_add-p
-overflow_add-p c = omega (arith, c.loop-left.invariant.0, c.loop-left-test.true, c.requires)
-
-pub overflow_sub-left : goal.overflow_sub-left
-overflow_sub-left c = omega (arith, c.loop-left-test.true)
-
-pub loop-left-smaller : goal.loop-left-smaller
-loop-left-smaller c = omega (arith, c.loop-left-test.true)
-
-pub loop-left-preserved : goal.loop-left-preserved
-loop-left-preserved c =
-    let a = c.args in
-    let l = c.loop-left in
-    (omega (arith, l.invariant.0, c.loop-left-test.true), sym (each_on a.triangles.now a.index.now a.b l.left l.p c.loop-left-test.true (ap (λ (k : ℕ). holds_all a.b (triangle_at a.triangles.now k)) (sym c.word.ensures) ∙ sym c.holds_all.ensures ∙ c.if-not-holds_all.false)) ∙ l.invariant.1)
+long : (p k : ℕ) → p + k - p ≡ k
+long p k = omega arith
 
 pub returns : goal.returns
 returns c =
     let a = c.args in
-    let l = c.loop-left in
-    sym (each_end a.triangles.now a.index.now a.b l.left l.p c.loop-left-test.false) ∙ l.invariant.1
+    all_from_yields_List (held a.triangles.now a.index.now a.b) _ _ _ c.all.ensures.ran (YieldsList-from_range a.first (a.first + a.count) a.count refl (long a.first a.count)) (λ x b q k. search (rules, tests)) ∙ each a.triangles.now a.index.now a.b a.count a.first

@@ -1,61 +1,38 @@
 -- Those from the round on give the lowest of all. Assumes nothing.
-use mathlib.Core.Path.{refl, sym, ◌∙◌}
-use Prim.Native.Nat.{◌+◌, ◌<◌}
+use mathlib.Core.Path.{◌≡◌, sym, ◌∙◌, ap}
+use Prim.Native.Nat.{ℕ, ◌+◌, ◌-◌}
 use native.Mathlib.Omega.{arith}
+use lib.ListN.{length}
+use Rattle.lent.specs.Lowest.{lowest}
+use Rattle.lent.proofs.Lowest.{start, end, part_clear, part_broken}
 use Rattle.accept.specs.inner.Room.{uneven}
-use Rattle.accept.proofs.Lowest.{start, end, part_clear, part_broken}
-use borrow.Author.Rules.{rules}
 use Rattle.accept.proofs.cover.first_uncovered.Goals as goal
 
 pub loop-from-init : goal.loop-from-init
-loop-from-init c =
-    let a = c.args in
-    (search rules, refl, start (uneven a.links.now) a.places)
+loop-from-init c = start (uneven c.args.links.now) c.args.places
 
-pub balance-requires : goal.balance-requires
-balance-requires c = c.requires.0
-
-pub overflow_sub-places : goal.overflow_sub-places
-overflow_sub-places c = omega (arith, c.loop-from-test.true)
-
-pub overflow_add-end : goal.overflow_add-end
-overflow_add-end c = omega (arith, c.part.ensures, c.loop-from-test.true)
-
-pub first_uneven-requires : goal.first_uneven-requires
-first_uneven-requires c = (c.requires.0, omega arith, omega (arith, c.part.ensures), c.balance.ensures.balanced)
-
-pub shape_of-work-in-At : goal.shape_of-work-in-At
-shape_of-work-in-At c = c.balance.ensures.work_len_unchanged ∙ c.loop-from.invariant.1
-
-pub returns-in-At : goal.returns-in-At
-returns-in-At c =
+pub returns-in-Some-clause-value : goal.returns-in-Some-clause-value
+returns-in-Some-clause-value c =
     let a = c.args in
     let l = c.loop-from in
-    let e = c.part.ensures in record {
-      work_len_unchanged = c.balance.ensures.work_len_unchanged ∙ l.invariant.1;
-      value = sym (part_broken (uneven a.links.now) l.from (l.from + c.part.result) a.places (omega arith) (omega (arith, e, c.loop-from-test.true)) _ _ c.first_uneven.ensures c.in-At.is) ∙ l.invariant.2;
-    }
-
-pub loop-from-smaller : goal.loop-from-smaller
-loop-from-smaller c =
-    let z : 0 < c.part.result =
-    c.part.ensures.2 (omega (arith, c.loop-from-test.true)) (omega (arith, c.loop-from.invariant.1, c.requires.1, c.balance.ensures.work_len_unchanged))
-    in
-    omega (arith, z, c.loop-from-test.true, c.part.ensures.0)
+    sym (part_broken (uneven a.links.now) l.from (l.from + c.min.result) a.places (omega arith) (omega arith) _ _ c.first_uneven.ensures c.in-Some.is) ∙ l.invariant
 
 pub loop-from-preserved : goal.loop-from-preserved
 loop-from-preserved c =
     let a = c.args in
     let l = c.loop-from in
-    let e = c.part.ensures in
-    (omega (arith, e, c.loop-from-test.true), c.balance.ensures.work_len_unchanged ∙ l.invariant.1, sym (part_clear (uneven a.links.now) l.from (l.from + c.part.result) a.places (omega arith) (omega (arith, e, c.loop-from-test.true)) _ c.first_uneven.ensures c.in_default.is) ∙ l.invariant.2)
+    let n : l.from + length a.work.now ≡ l.from + c.min.result = omega arith in
+    ap (λ (k : ℕ). lowest (uneven a.links.now) k (a.places - k)) n
+    ∙ sym (part_clear (uneven a.links.now) l.from (l.from + c.min.result) a.places (omega arith) (omega arith) _ c.first_uneven.ensures c.in_default.is)
+    ∙ l.invariant
 
-pub shape_of-work : goal.shape_of-work
-shape_of-work c = c.loop-from.invariant.1
+pub returns-clause-value : goal.returns-clause-value
+returns-clause-value c = sym (end (uneven c.args.links.now) c.loop-from.from c.args.places c.loop-from-test.false) ∙ c.loop-from.invariant
 
-pub returns : goal.returns
-returns c =
-    let a = c.args in record {
-      work_len_unchanged = c.loop-from.invariant.1;
-      value = sym (end (uneven a.links.now) c.loop-from.from a.places c.loop-from-test.false) ∙ c.loop-from.invariant.2;
-    }
+pub returns-in_default-clause-value : goal.returns-in_default-clause-value
+returns-in_default-clause-value c =
+    let a = c.args in
+    let l = c.loop-from in
+    sym (end (uneven a.links.now) (l.from + c.min.result) a.places (omega arith))
+    ∙ sym (part_clear (uneven a.links.now) l.from (l.from + c.min.result) a.places (omega arith) (omega arith) _ c.first_uneven.ensures c.in_default.is)
+    ∙ l.invariant

@@ -1,34 +1,30 @@
--- Those from p on give the lowest of all. Assumes nothing.
-use mathlib.Core.Path.{refl, sym, ◌∙◌}
-use native.Mathlib.Omega.{arith}
-use Rattle.accept.proofs.Lowest.{on, stop, end}
+-- The lowest that `find` finds, in the range where the room has what it counts. Assumes nothing.
+use Rattle.std.proofs.Common.{◌≡◌, ℕ, ◌+◌, ◌-◌, ◌≤◌, ◌<◌, Bool, true, false, eqb, Option, Some, None, get_or, refl, arith, rules, tests}
+use Rattle.std.specs.Option.{MatchOption}
+use Rattle.std.proofs.lemmas.Iterator.{first_from_Range}
+use Rattle.lent.specs.Lowest.{lowest}
+use Rattle.lent.proofs.Lowest.{lowest_in}
+use Rattle.tree.specs.Lent.{node_count}
+use Rattle.accept.specs.Count.{tick}
 use Rattle.accept.specs.inner.Room.{uneven}
 use Rattle.accept.proofs.Fills.{uneven_yes, uneven_no}
-use borrow.Author.Rules.{rules}
 use Rattle.accept.proofs.cover.first_uneven.Goals as goal
 
-pub loop-p-init : goal.loop-p-init
-loop-p-init c = (search rules, search rules, refl)
-
-pub returns-then-work-p : goal.returns-then-work-p
-returns-then-work-p c =
-    let a = c.args in
-    let l = c.loop-p in
-    sym (stop (uneven a.links.now) l.p a.end c.loop-p-test.true
-    (uneven_yes a.links.now a.work.now a.from l.p _ c.requires.3 l.invariant.0 (omega (arith, l.invariant, c.requires, c.loop-p-test.true)) c.even.ensures c.if-work-p.true)) ∙ l.invariant.2
-
-pub loop-p-preserved : goal.loop-p-preserved
-loop-p-preserved c =
-    let a = c.args in
-    let l = c.loop-p in (
-      omega (arith, l.invariant.0),
-      omega (arith, c.loop-p-test.true),
-      sym (on (uneven a.links.now) l.p a.end c.loop-p-test.true
-          (uneven_no a.links.now a.work.now a.from l.p _ c.requires.3 l.invariant.0 (omega (arith, l.invariant, c.requires, c.loop-p-test.true)) c.even.ensures c.if-work-p.false)) ∙ l.invariant.2,
-    )
+found : (p : ℕ → Bool) (Yes No : ℕ → Type 0) (a b : ℕ) (r : Option ℕ) → a ≤ b
+    → ((x : ℕ) → a ≤ x → x < b → Yes x → p x ≡ true)
+    → ((x : ℕ) → a ≤ x → x < b → No x → p x ≡ false)
+    → MatchOption r ((k : ℕ) → a ≤ k → k < b → No k) (λ i. (a ≤ i) × (i < b) × Yes i × ((k : ℕ) → a ≤ k → k < i → No k))
+    → r ≡ lowest p a (b - a)
+found p Yes No a b None l y n h = lowest_in p a b None l (λ k i j. n k i j (h k i j))
+found p Yes No a b (Some x) l y n h = lowest_in p a b (Some x) l (h.0, h.1, y x h.0 h.1 h.2, λ k i j. n k i (omega arith) (h.3 k i j))
 
 pub returns : goal.returns
 returns c =
     let a = c.args in
-    let l = c.loop-p in
-    sym (end (uneven a.links.now) l.p a.end c.loop-p-test.false) ∙ l.invariant.2
+    let q = c.requires in
+    let told = λ (x : ℕ). get_or a.work.now (x - a.from) 0 in
+    let even = λ (x : ℕ). node_count a.links.now + tick (eqb x 0) in
+    found (uneven a.links.now) (λ x. told x ≡ even x → ⊥) (λ x. told x ≡ even x) a.from a.end _ q.1
+    (λ x l m. uneven_yes a.links.now a.work.now a.from x (even x) q.3 l (omega (arith, q.2)) refl)
+    (λ x l m. uneven_no a.links.now a.work.now a.from x (even x) q.3 l (omega (arith, q.2)) refl)
+    (first_from_Range _ _ _ _ (λ x. told x ≡ even x → ⊥) (λ x. told x ≡ even x) c.find.ensures.ran (λ x q k. search (rules, tests)) (λ x q k. search (rules, tests)))

@@ -6,7 +6,7 @@ use lib.Ieee.{sub, mul, binary64}
 use mathlib.Core.Path.{ap}
 use Rattle.aabb.specs.declared.vector.Vec3.{Vec3}
 use Rattle.aabb.specs.Vector.{along}
-use Rattle.triangle.specs.Mesh.{triangle_at, centroid_at}
+use Rattle.triangle.specs.Mesh.{centroid_at}
 use Rattle.lent.specs.Limits.{most_triangles}
 use Rattle.lent.proofs.Permutation.{occ_at}
 use Rattle.builder.proofs.Filling.{ahead_start, ahead_next, ahead_end, held_up}
@@ -33,8 +33,8 @@ loop-i-preserved c =
     let h = c.loop-i-test.true in
     let t = c.corners-t in
     let i = get_or a.index.now l.i-index 0 in
-    let p = centroid_by (triangle_at m i) t.result.v0 t.result.v1 t.result.v2 c.centroid-c.result t.ensures.0 t.ensures.1 t.ensures.2 c.centroid-c.ensures in
-    let b = bounds_by m i t.result.v0 t.result.v1 t.result.v2 c.box_of-b.result t.ensures.0 t.ensures.1 t.ensures.2 c.box_of-b.ensures in (
+    let p = centroid_by m i t.result c.centroid-c.result t.ensures c.centroid-c.ensures in
+    let b = bounds_by m i t.result c.box_of-b.result t.ensures c.box_of-b.ensures in (
       ahead_next m 0 a.min.x a.scale.x a.index.now l.i-index l.bins.x v.0 _ _ _ h (ap (λ (z : Vec3). mul binary64 (sub binary64 z.x a.min.x) a.scale.x) p) b c.put.ensures,
       ahead_next m 1 a.min.y a.scale.y a.index.now l.i-index l.bins.y v.1 _ _ _ h (ap (λ (z : Vec3). mul binary64 (sub binary64 z.y a.min.y) a.scale.y) p) b c.put-in-loop-i.ensures,
       ahead_next m 2 a.min.z a.scale.z a.index.now l.i-index l.bins.z v.2 _ _ _ h (ap (λ (z : Vec3). mul binary64 (sub binary64 z.z a.min.z) a.scale.z) p) b c.put-in-loop-i-2.ensures,

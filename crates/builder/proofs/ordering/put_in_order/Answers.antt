@@ -1,8 +1,7 @@
 -- First the list is a heap from k on; then a heap up to `end`, and in place from there on. Assumes nothing.
-use mathlib.Core.Path.{◌≡◌, refl, sym, ◌∙◌, ap, subst}
+use mathlib.Core.Path.{◌≡◌, refl, sym, ◌∙◌, subst}
 use Prim.Native.Nat.{ℕ, ◌+◌, ◌-◌, ◌<◌}
 use native.Mathlib.Omega.{arith}
-use lib.ListN.{length}
 use lib.Seq.{length-take-le}
 use Rattle.triangle.specs.Mesh.{centroid_at}
 use Rattle.builder.specs.Fallback.{sorts_before, ordered}

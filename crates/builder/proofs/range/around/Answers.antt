@@ -1,7 +1,6 @@
 -- What is left of the range gives both boxes from those so far, and no number of these is a NaN. Assumes nothing.
 use mathlib.Core.Path.{sym, ◌∙◌}
 use lib.ListN.{get_or}
-use Rattle.triangle.specs.Mesh.{triangle_at}
 use Rattle.aabb.proofs.Running.{clear_as, empty_clear, grown_by_lem, union_by}
 use Rattle.builder.proofs.RangePasses.{bounds_by, box_again, box_end, box_start, centroid_by, centroids_again, centroids_end, centroids_start}
 use Rattle.lent.proofs.Permutation.{occ_at}
@@ -25,8 +24,8 @@ loop-i-preserved c =
     let k = get_or a.index.now l.i-index 0 in
     let b = union_by l.bounds _ _ l.invariant.2 c.joined-bounds.ensures in
     let p = grown_by_lem l.centroids _ _ l.invariant.3 c.widened-centroids.ensures in (
-      box_again a.triangles.now a.index.now l.i-index h l.bounds _ _ _ (bounds_by a.triangles.now k _ _ _ _ v.ensures.0 v.ensures.1 v.ensures.2 c.box_of.ensures) b.0 l.invariant.0,
-      centroids_again a.triangles.now a.index.now l.i-index h l.centroids _ _ _ (centroid_by (triangle_at a.triangles.now k) _ _ _ _ v.ensures.0 v.ensures.1 v.ensures.2 c.centroid.ensures) p.0 l.invariant.1,
+      box_again a.triangles.now a.index.now l.i-index h l.bounds _ _ _ (bounds_by a.triangles.now k v.result _ v.ensures c.box_of.ensures) b.0 l.invariant.0,
+      centroids_again a.triangles.now a.index.now l.i-index h l.centroids _ _ _ (centroid_by a.triangles.now k v.result _ v.ensures c.centroid.ensures) p.0 l.invariant.1,
       b.1,
       p.1,
     )

@@ -1,8 +1,8 @@
 -- First the right sides, from the right end; then the boundaries from i on, with what is to the left joined, give the whole sweep. Assumes nothing.
-use mathlib.Core.Path.{◌≡◌, refl, sym, ◌∙◌, ap}
-use Prim.Native.Nat.{ℕ, ◌+◌, ◌-◌, ◌<◌}
+use mathlib.Core.Path.{refl, sym, ◌∙◌, ap}
+use Prim.Native.Nat.{◌+◌, ◌-◌}
 use native.Mathlib.Omega.{arith}
-use lib.ListN.{length, drop, get_or, length-replicate, length-set}
+use lib.ListN.{drop, get_or, length-replicate, length-set}
 use Rattle.float.specs.Number.{nought}
 use Rattle.builder.specs.declared.bins.Bin.{Bin}
 use Rattle.builder.specs.declared.split.Side.{Side}
@@ -39,7 +39,7 @@ loop-i-init c =
     let l = c.loop-k in
     let v = l.invariant in
     let bs = a.bins.now in
-    (v.0, omega arith, omega (arith, none_number c.none-left.result c.none-left.ensures.0), c.none-left.ensures.1, ap (λ (z : Bin). sweep_from a.axis a.min a.width a.parent a.best z bs 0) c.none-left.ensures.0, sides_most bs l.sides l.k 1 c.loop-k-test.false v.5)
+    (v.0, omega arith, omega (arith, none_number c.none-left.result c.none-left.ensures.0), c.none-left.ensures.1, ap (λ (z : Bin). sweep_from a.on.axis a.on.min a.on.width a.on.parent a.best z bs 0) c.none-left.ensures.0, sides_most bs l.sides l.k 1 c.loop-k-test.false v.5)
 
 pub joined-left-requires : goal.joined-left-requires
 joined-left-requires c =
@@ -57,10 +57,10 @@ loop-i-preserved c =
     let bs = a.bins.now in
     let b = get_or bs l.i blank in
     let sides = c.loop-k.sides in
-    (v.0, omega (arith, t), omega (arith, v.2, c.requires.most l.i (omega (arith, t)), join_number l.left b r.result r.ensures.0), r.ensures.1, sweep_next a.axis a.min a.width a.parent l.most c.better-most.result l.left r.result b bs l.i _ c.requires.long t refl r.ensures.0 (c.better-most.ensures (suffix_of (drop (l.i + 1) bs)) (side_number bs sides 1 (l.i + 1) v.5 (omega arith) (omega (arith, t))) (side_weight bs sides 1 (l.i + 1) v.5 (omega arith) (omega (arith, t)))) v.4, v.5)
+    (v.0, omega (arith, t), omega (arith, v.2, c.requires.most l.i (omega (arith, t)), join_number l.left b r.result r.ensures.0), r.ensures.1, sweep_next a.on.axis a.on.min a.on.width a.on.parent l.most c.better-most.result l.left r.result b bs l.i _ c.requires.long t refl r.ensures.0 (c.better-most.ensures (suffix_of (drop (l.i + 1) bs)) (side_number bs sides 1 (l.i + 1) v.5 (omega arith) (omega (arith, t))) (side_weight bs sides 1 (l.i + 1) v.5 (omega arith) (omega (arith, t)))) v.4, v.5)
 
 pub returns : goal.returns
 returns c =
     let a = c.args in
     let l = c.loop-i in
-    sym (sweep_end a.axis a.min a.width a.parent l.most l.left a.bins.now l.i c.requires.long l.invariant.1 c.loop-i-test.false) ∙ l.invariant.4
+    sym (sweep_end a.on.axis a.on.min a.on.width a.on.parent l.most l.left a.bins.now l.i c.requires.long l.invariant.1 c.loop-i-test.false) ∙ l.invariant.4

@@ -15,4 +15,4 @@ invariant-loop-k l =
 
 abbrev pub invariant-loop-i : goal.invariant-loop-i
 invariant-loop-i l =
-    (length l.sides ≡ 16) × (l.i ≤ 15) × (l.left.count ≤ l.i * most_triangles) × Clear l.left.bounds × (sweep_from l.axis l.min l.width l.parent l.most l.left (drop l.i l.bins) l.i ≡ sweep_from l.axis l.min l.width l.parent l.initial.most no_bin l.bins 0) × Sides l.bins l.sides 1
+    (length l.sides ≡ 16) × (l.i ≤ 15) × (l.left.count ≤ l.i * most_triangles) × Clear l.left.bounds × (sweep_from l.on.axis l.on.min l.on.width l.on.parent l.most l.left (drop l.i l.bins) l.i ≡ sweep_from l.on.axis l.on.min l.on.width l.on.parent l.initial.most no_bin l.bins 0) × Sides l.bins l.sides 1

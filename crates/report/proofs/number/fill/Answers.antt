@@ -1,5 +1,6 @@
 -- The numbers written so far are the first of the list. Assumes nothing.
 use mathlib.Core.Path.{refl}
+use native.Mathlib.Omega.{arith}
 use borrow.Author.Rules.{rules}
 use lib.ListN.{length-set}
 use Rattle.builder.proofs.StartLoops.{all_written}
@@ -12,7 +13,7 @@ unfolding numbers
 loop-i-init c = (search rules, refl, refl)
 
 pub loop-i-preserved : goal.loop-i-preserved
-loop-i-preserved c = (search rules, simp length-set c.loop-i.invariant.1, numbers_more _ _ c.loop-i.out c.loop-i.i _ c.loop-i-test.true c.number.ensures c.loop-i.invariant.2)
+loop-i-preserved c = (search rules, simp length-set c.loop-i.invariant.1, numbers_more _ _ c.loop-i.out c.loop-i.i _ (omega (arith, c.loop-i-test.true, c.loop-i.invariant.1)) c.number.ensures c.loop-i.invariant.2)
 
 pub returns : goal.returns
-returns c = all_written (numbers _ _) c.loop-i.out c.loop-i.i _ c.loop-i.invariant.0 c.loop-i-test.false c.loop-i.invariant.1 c.loop-i.invariant.2
+returns c = all_written (numbers _ _) c.loop-i.out c.loop-i.i _ c.loop-i.invariant.0 (omega (arith, c.loop-i-test.false, c.loop-i.invariant.1)) c.loop-i.invariant.1 c.loop-i.invariant.2

@@ -1,25 +1,13 @@
--- Those from i on give the lowest of all. Assumes nothing.
-use mathlib.Core.Path.{sym, ◌∙◌}
-use native.Mathlib.Omega.{arith}
-use Rattle.triangle.proofs.Admitting.{refused_end}
-use Rattle.stl.specs.Layout.{mesh_in}
-use Rattle.stl.proofs.Held.{held_go, held_stop}
+-- The lowest that `find` finds. Assumes nothing.
+use Rattle.std.proofs.Common.{◌≡◌, true, false, ◌∙◌, rules, tests}
+use Rattle.std.proofs.lemmas.Iterator.{first_from_Range}
+use Rattle.lent.proofs.Lowest.{lowest_below}
+use Rattle.stl.proofs.Held.{refused_in, held_lowest}
 use Rattle.stl.proofs.reading.first_refused.Goals as goal
-
-pub loop-i-preserved : goal.loop-i-preserved
-loop-i-preserved c =
-    let a = c.args in
-    let l = c.loop-i in
-    (omega (arith, c.loop-i-test.true), sym (held_go a.s.now a.at a.n l.i c.loop-i-test.true (sym c.admitted.ensures ∙ c.if-admitted.true)) ∙ l.invariant.1)
-
-pub returns-else-admitted : goal.returns-else-admitted
-returns-else-admitted c =
-    let a = c.args in
-    let l = c.loop-i in
-    sym (held_stop a.s.now a.at a.n l.i c.loop-i-test.true (sym c.admitted.ensures ∙ c.if-admitted.false)) ∙ l.invariant.1
 
 pub returns : goal.returns
 returns c =
     let a = c.args in
-    let l = c.loop-i in
-    sym (refused_end (mesh_in a.s.now a.at a.n) l.i a.n c.loop-i-test.false) ∙ l.invariant.1
+    let p = refused_in a.s.now a.at a.n in
+    lowest_below p a.n _ (first_from_Range _ _ _ _ (λ i. p i ≡ true) (λ i. p i ≡ false) c.find.ensures.ran (λ x q k. search (rules, tests)) (λ x q k. search (rules, tests)))
+    ∙ held_lowest a.s.now a.at a.n

@@ -1,25 +1,12 @@
--- Those from i on give the lowest of all. Assumes nothing.
-use mathlib.Core.Path.{◌≡◌, sym, ap, ◌∙◌}
-use native.Mathlib.Omega.{arith}
-use Rattle.stl.specs.Writing.{exact_triangle}
-use Rattle.stl.proofs.Exact.{inexact_go, inexact_stop, inexact_end}
+-- The lowest that `find` finds. Assumes nothing.
+use Rattle.std.proofs.Common.{◌≡◌, true, false, rules, tests}
+use Rattle.std.proofs.lemmas.Iterator.{first_from_Range}
+use Rattle.lent.proofs.Lowest.{lowest_below}
+use Rattle.stl.specs.Writing.{inexact_at, first_inexact}
 use Rattle.stl.proofs.writing.first_inexact.Goals as goal
 
-pub loop-i-preserved : goal.loop-i-preserved
-loop-i-preserved c =
-    let a = c.args in
-    let l = c.loop-i in
-    (omega (arith, c.loop-i-test.true), sym (inexact_go a.mesh.now l.i c.exact_triangle.result (c.exact_triangle.ensures ∙ ap exact_triangle c.read.ensures) a.n c.loop-i-test.true c.if-exact_triangle.true) ∙ l.invariant.1)
-
-pub returns-else-exact_triangle : goal.returns-else-exact_triangle
-returns-else-exact_triangle c =
-    let a = c.args in
-    let l = c.loop-i in
-    sym (inexact_stop a.mesh.now l.i c.exact_triangle.result (c.exact_triangle.ensures ∙ ap exact_triangle c.read.ensures) a.n c.loop-i-test.true c.if-exact_triangle.false) ∙ l.invariant.1
-
 pub returns : goal.returns
+unfolding first_inexact
 returns c =
-    let a = c.args in
-    let l = c.loop-i in
-    let same : a.n ≡ l.i = omega (arith, l.invariant.0, c.loop-i-test.false) in
-    same ∙ sym (inexact_end a.mesh.now l.i a.n c.loop-i-test.false) ∙ l.invariant.1
+    let p = inexact_at c.args.mesh.now in
+    lowest_below p c.args.n _ (first_from_Range _ _ _ _ (λ i. p i ≡ true) (λ i. p i ≡ false) c.find.ensures.ran (λ x q k. search (rules, tests)) (λ x q k. search (rules, tests)))

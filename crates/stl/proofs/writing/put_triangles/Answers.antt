@@ -14,5 +14,5 @@ loop-i-preserved c =
     let l = c.loop-i in
     let t = c.loop-i-test.true in
     let n = l.invariant.1 ∙ c.requires.0 in
-    let e = c.put_triangle.ensures ∙ ap record_of c.read-t.ensures in
+    let e = c.put_triangle.ensures ∙ ap record_of c.read.ensures in
     (omega (arith, t), records_same_length a.mesh.now l.out _ l.i a.n n t e ∙ l.invariant.1, records_more a.mesh.now l.out _ l.i a.n n t e l.invariant.2)

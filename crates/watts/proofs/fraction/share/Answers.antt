@@ -1,5 +1,4 @@
--- Each return is a line of the definition; a quotient is at most what was divided. Assumes nothing.
-use native.Mathlib.Nat.{div-le_self}
+-- Each return is a line of the definition. Assumes nothing.
 use native.Mathlib.Omega.{arith}
 use Rattle.watts.proofs.LowestTerms.{share_none, share_beyond, share_fits}
 use Rattle.watts.proofs.fraction.share.Goals as goal
@@ -7,18 +6,8 @@ use Rattle.watts.proofs.fraction.share.Goals as goal
 pub returns-then-common-eq0 : goal.returns-then-common-eq0
 returns-then-common-eq0 c = share_none _ _ _ c.gcd-common.ensures c.if-common-eq0.true
 
-pub overflow_sub-above : goal.overflow_sub-above
-overflow_sub-above c = omega (arith, div-le_self c.args.shaded c.gcd-common.result)
+pub returns-in-Some : goal.returns-in-Some
+returns-in-Some c = let e = c.in-Some.ensures in rw e.1 (share_fits _ _ _ c.gcd-common.ensures c.if-common-eq0.false e.0)
 
-pub returns-then-above-rest : goal.returns-then-above-rest
-returns-then-above-rest c =
-    let g = c.gcd-common in
-    share_beyond _ _ _ g.ensures c.if-common-eq0.false (omega (arith, c.if-above-rest.true, div-le_self c.args.shaded g.result))
-
-pub overflow_add-result : goal.overflow_add-result
-overflow_add-result c = omega (arith, c.if-above-rest.false, div-le_self c.args.shaded c.gcd-common.result)
-
-pub returns : goal.returns
-returns c =
-    let g = c.gcd-common in
-    share_fits _ _ _ g.ensures c.if-common-eq0.false (omega (arith, c.if-above-rest.false, div-le_self c.args.shaded g.result))
+pub returns-in-None : goal.returns-in-None
+returns-in-None c = share_beyond _ _ _ c.gcd-common.ensures c.if-common-eq0.false (omega (arith, c.in-None.ensures))
