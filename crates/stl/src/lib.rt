@@ -65,6 +65,7 @@ pub fn read(file: &[u8], triangles: &mut [f64], materials: &mut [u32]) -> Result
 // Writes the file of a mesh into the lent room, with a zero header and zero attributes; answers how many bytes. Room beyond them stays. Refused, in this order, and
 // then nothing is written: 1 the numbers are not in twelves; 2 more than 65,536 triangles (at: how many); 5 a triangle isn't admitted (at: the lowest number);
 // 17 a number is not exactly a binary32 (at: the lowest such triangle); 16 the room is shorter than 84 + 50 bytes a triangle.
+#[tactic(auto, using(crate::proofs::Rungs::front_room), unfolding(crate::specs::Writing::write_stl, crate::specs::Writing::write_count, crate::specs::Writing::inexact, crate::specs::Answers::told, triangle::specs::Mesh::unadmitted, lent::specs::Ladder::unless, lent::specs::Ladder::answered, lent::specs::Ladder::first_failed))]
 pub fn write(triangles: &[f64], file: &mut [u8]) -> Result<usize, Refused>
     ensures { written_as (told result) file.new ≡ write_stl triangles.now file.old }
 {

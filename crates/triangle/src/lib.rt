@@ -6,6 +6,7 @@
 mod normals; // normals.rt: Triangle::new, and the call that refills a mesh
 
 ghost use Rattle.std.specs.Prelude.{◌≡◌, ◌+◌, ◌/◌, ◌<◌, ◌≤◌, length, IfOk};
+ghost use Rattle.lent.specs.Limits.{most_triangles};
 ghost use Rattle.lent.specs.Ladder.{triangle_count, mesh_checks, first_failed};
 ghost use Rattle.lent.specs.Refusals.{refusal_of};
 ghost use Rattle.float.specs.Number.{three};
@@ -236,6 +237,7 @@ impl Crossing {
 pub fn count(mesh: &[f64]) -> Result<usize, Refused>
     ensures refusal { refusal_of result ≡ first_failed (mesh_checks mesh.now) }
     ensures count { IfOk result (λ n. n ≡ triangle_count mesh.now) }
+    ensures few { IfOk result (λ n. n ≤ most_triangles) }
 {
     if mesh.len() % 12 != 0 {
         return Err(Refused {
