@@ -14,7 +14,7 @@ use lib.Ieee.Fits.{and_l}
 use borrow.Author.Tests.{ltb-false}
 use Rattle.lent.specs.Limits.{most_triangles, most_placements, deepest}
 use Rattle.lent.specs.Ladder.{Check, Refusal, none, numbered, first_failed, answered, unless, triangle_count}
-use Rattle.lent.specs.Members.{Every, Some, Member}
+use Rattle.lent.specs.Members.{Every, Any, Member}
 use Rattle.lent.specs.Permutation.{up_to}
 use Rattle.lent.proofs.Ladder.{ends, goes, agree, not_below, apart, each_passed}
 use Rattle.aabb.specs.declared.bounds.Aabb.{Aabb}
@@ -64,7 +64,7 @@ module _ (matrices : List Float) (root : Aabb) where
 
 -- ---- the ladder
 -- a refusal is that of a check
-failed_number : (checks : List Check) (number at : ℕ) → first_failed checks ≡ numbered number at → Some (λ c. number ≡ c.number) checks
+failed_number : (checks : List Check) (number at : ℕ) → first_failed checks ≡ numbered number at → Any (λ c. number ≡ c.number) checks
 unfolding first_failed
 failed_number [] number at e = apart number at e
 failed_number (c ∷ cs) number at e = go c.fails e (λ f. failed_number cs number at f)
@@ -72,7 +72,7 @@ failed_number (c ∷ cs) number at e = go c.fails e (λ f. failed_number cs numb
     same : (k i : ℕ) → numbered k i ≡ numbered number at → number ≡ k
     same k i e = cc
 
-    go : (t : Bool) → cond t (numbered c.number c.at) (first_failed cs) ≡ numbered number at → (first_failed cs ≡ numbered number at → Some (λ d. number ≡ d.number) cs) → (number ≡ c.number) ⊎ Some (λ d. number ≡ d.number) cs
+    go : (t : Bool) → cond t (numbered c.number c.at) (first_failed cs) ≡ numbered number at → (first_failed cs ≡ numbered number at → Any (λ d. number ≡ d.number) cs) → (number ≡ c.number) ⊎ Any (λ d. number ≡ d.number) cs
     go true f rest = inl (same c.number c.at f)
     go false f rest = inr (rest f)
 
@@ -128,7 +128,7 @@ module _ (matrices inverses : List Float) (root : Aabb) (before : List Float) (i
   pub named : Named all_made
   named number at e = go (first_failed checks) refl
     where
-      listed : Some (λ c. number ≡ c.number) checks → Member number (23 ∷ 24 ∷ 25 ∷ 26 ∷ 16 ∷ 3 ∷ 4 ∷ 6 ∷ [])
+      listed : Any (λ c. number ≡ c.number) checks → Member number (23 ∷ 24 ∷ 25 ∷ 26 ∷ 16 ∷ 3 ∷ 4 ∷ 6 ∷ [])
       listed (inl p) = inl p
       listed (inr (inl p)) = inl p
       listed (inr (inr (inl p))) = inl p
