@@ -2,7 +2,7 @@
 use Rattle.std.specs.Prelude.{ℕ, Result, Ok, Err}
 use Rattle.lent.specs.Ladder.{Refusal, none, numbered}
 use Rattle.lent.specs.declared.refusal.Reason.{Reason}
-use Rattle.lent.specs.declared.refusal.Reason.TheVariants.{Ragged, Crowded, ShortIndex, ShortTree, BadTriangle, Deep, BadRay, Misfit, BadNode, BadEntry, Full, Endless, ShortAnswers, RaggedRays, BadFile, ShortRoom, Inexact, Unlabelled, Broken, BadPlacements, BadMatrix, BadHouse, BadPlace, Unweighed, CrowdedRays}
+use Rattle.lent.specs.declared.refusal.Reason.TheVariants.{Ragged, Crowded, ShortIndex, ShortTree, BadTriangle, Deep, BadRay, Misfit, BadNode, BadEntry, Full, Endless, ShortAnswers, RaggedRays, BadFile, ShortRoom, Inexact, Unlabelled, BadPlacements, BadMatrix, BadHouse, BadPlace, Unweighed, CrowdedRays}
 use Rattle.lent.specs.declared.refusal.Refused.{Refused}
 
 abbrev pub number : Reason → ℕ
@@ -24,7 +24,6 @@ number BadFile = 15
 number ShortRoom = 16
 number Inexact = 17
 number Unlabelled = 18
-number Broken = 19
 number BadPlacements = 23
 number BadMatrix = 24
 number BadHouse = 25

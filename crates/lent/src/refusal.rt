@@ -2,7 +2,7 @@
 ghost use Rattle.std.specs.Prelude.{◌≡◌};
 ghost use Rattle.lent.specs.Refusals.{number};
 
-// Each reason has the number of documents 01 and 02.
+// Each reason has the number of documents 01 and 02. 19, a condition that is broken, is crate accept's, which says the condition too.
 #[derive(Clone, Copy, Debug, PartialEq, Eq)]
 pub enum Reason {
     // The triangles are not in twelves.
@@ -41,8 +41,6 @@ pub enum Reason {
     Inexact = 17,
     // There is not one material for each triangle.
     Unlabelled = 18,
-    // The tree breaks a condition.
-    Broken = 19,
     // The placements are too many, or their lists not alike.
     BadPlacements = 23,
     // A matrix isn't good.

@@ -1,10 +1,7 @@
 -- What each exported call answers and leaves in the lent arrays (rules X1 to X7), as the comment at the call says (src/lib.rt). Definitions only.
-use Rattle.std.specs.Prelude.{ℕ, cond, List, [], ◌∷◌, eqb, Float}
+use Rattle.std.specs.Prelude.{ℕ, cond, List, [], ◌∷◌, eqb, Float, Option, Some, None}
 use Rattle.aabb.specs.declared.slab.Span.{Span}
-use Rattle.aabb.specs.declared.slab.Span.TheVariants.{Passed, Missed}
 use Rattle.triangle.specs.declared.Hit.{Hit}
-use Rattle.triangle.specs.declared.Found.{Found}
-use Rattle.triangle.specs.declared.Found.TheVariants.{At, Nothing}
 use Rattle.triangle.specs.Refilled.{Outcome as Refilling}
 use Rattle.builder.specs.Reply.{Reply}
 use Rattle.builder.specs.Build.{Outcome}
@@ -12,9 +9,7 @@ use Rattle.lent.specs.Ladder.{Refusal, none, numbered}
 use Rattle.walk.specs.Answer.{Told}
 use Rattle.sky.specs.Sky.{Filling}
 use Rattle.watts.specs.declared.fraction.Terms.{Terms}
-use Rattle.watts.specs.declared.Counted.{Counted}
-use Rattle.watts.specs.declared.Counted.TheVariants.{Report, Refused}
-use Rattle.watts.specs.Watts.{watts_refusal, Outcome as Weighing}
+use Rattle.watts.specs.Watts.{Counted, Report, Refused, watts_refusal, Outcome as Weighing}
 use Rattle.accept.specs.Accept.{Ruling, Outcome as Judging}
 use Rattle.stl.specs.Answers.{Told as StlTold, Read, Written}
 
@@ -82,9 +77,9 @@ walk answer numbers told = record { answer = answer; numbers = numbers; told = t
 
 -- 100 for a hit: numbers = t, point, normal, u, v; told = triangle, front (1 or 0), box tests, triangle tests, material. 0 for a miss: told = 0, 0, box
 -- tests, triangle tests, 0. Else the refusal number: told = at, 0, 0, 0, 0. numbers stay unchanged unless it is a hit
-unfoldable pub walk_report : Refusal → Found → ℕ → ℕ → List Float → Walk
-walk_report none (At h) boxes triangles numbers = walk 100 (hit_numbers h) (h.triangle ∷ front_number h ∷ boxes ∷ triangles ∷ h.material ∷ [])
-walk_report none Nothing boxes triangles numbers = walk 0 numbers (0 ∷ 0 ∷ boxes ∷ triangles ∷ 0 ∷ [])
+unfoldable pub walk_report : Refusal → Option Hit → ℕ → ℕ → List Float → Walk
+walk_report none (Some h) boxes triangles numbers = walk 100 (hit_numbers h) (h.triangle ∷ front_number h ∷ boxes ∷ triangles ∷ h.material ∷ [])
+walk_report none None boxes triangles numbers = walk 0 numbers (0 ∷ 0 ∷ boxes ∷ triangles ∷ 0 ∷ [])
 walk_report (numbered number at) hit boxes triangles numbers = walk number numbers (at ∷ 0 ∷ 0 ∷ 0 ∷ 0 ∷ [])
 
 unfoldable pub walked : Told → List Float → Walk
@@ -115,14 +110,14 @@ abbrev pub test : ℕ → List Float → Test
 test answer numbers = record { answer = answer; numbers = numbers }
 
 -- 1 and times = enter, exit; or 0 and times unchanged
-unfoldable pub slab_report : Span → List Float → Test
-slab_report (Passed enter exit) times = test 1 (enter ∷ exit ∷ [])
-slab_report Missed times = test 0 times
+unfoldable pub slab_report : Option Span → List Float → Test
+slab_report (Some s) times = test 1 (s.enter ∷ s.exit ∷ [])
+slab_report None times = test 0 times
 
 -- 2 front or 1 back with numbers = t, point, normal, u, v; or 0 and numbers unchanged
-unfoldable pub triangle_report : Found → List Float → Test
-triangle_report (At h) numbers = test (side_number h) (hit_numbers h)
-triangle_report Nothing numbers = test 0 numbers
+unfoldable pub triangle_report : Option Hit → List Float → Test
+triangle_report (Some h) numbers = test (side_number h) (hit_numbers h)
+triangle_report None numbers = test 0 numbers
 
 -- ---- pigeonmast_normals (rule X6)
 -- the number, and what told and the triangles hold at the end

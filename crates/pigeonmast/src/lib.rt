@@ -11,15 +11,16 @@ ghost use Rattle.aabb.specs.Slab.{slab};
 ghost use Rattle.triangle.specs.Mesh.{triangle_at, triangle_numbers};
 ghost use Rattle.triangle.specs.Meeting.{strike};
 ghost use Rattle.triangle.specs.Normal.{new_triangle};
-ghost use Rattle.triangle.specs.Refilled.{refill_refusal, refilled};
+ghost use Rattle.triangle.specs.Refilled.{refilled};
+ghost use Rattle.lent.specs.Refusals.{refusal_of};
 ghost use Rattle.builder.specs.Reply.{reply};
 ghost use Rattle.builder.specs.Build.{built};
 ghost use Rattle.tree.specs.Lent.{lent};
 ghost use Rattle.walk.specs.Answer.{told as answered};
 ghost use Rattle.walk.specs.Walk as scene;
-ghost use Rattle.sky.specs.Sky.{sky_refusal, sky as filled};
+ghost use Rattle.sky.specs.Sky.{sky as filled};
 ghost use Rattle.watts.specs.Share.{share as share_of};
-ghost use Rattle.watts.specs.Watts.{watts_refusal, watts as weighed};
+ghost use Rattle.watts.specs.Watts.{counted, watts_refusal, watts as weighed};
 ghost use Rattle.accept.specs.Conditions.{foreign};
 ghost use Rattle.accept.specs.Accept.{ruling, accepted};
 ghost use Rattle.stl.specs.Answers.{told as stl_answered};
@@ -28,12 +29,13 @@ ghost use Rattle.stl.specs.Writing.{write_stl};
 ghost use Rattle.pigeonmast.specs.Report.{abi, hit_numbers, front_number, side_number, refusal_number, refusal_at, build, build_told, build_report, walk, walked, sky, sky_report, test, slab_report, triangle_report, normals, normals_report, watts, report_numbers, watts_report, share_numbers, accept, accept_told, accept_report, stl_told, stl_read, read_report, stl_written, write_report};
 
 use aabb::{Aabb, Ray, Span, Vec3};
-use accept::Verdict;
+use accept::Rejection;
 use builder::Built;
-use sky::Filled;
-use triangle::{Found, Hit, Refill, Triangle};
+use lent::Refused;
+use tree::{Lent, Lists, Mesh};
+use triangle::{Hit, Triangle};
 use walk::Answer;
-use watts::Counted;
+use watts::Report;
 
 // A hit's nine numbers: t, point, normal, u, v.
 fn hit_numbers(hit: Hit) -> [f64; 9]
@@ -67,23 +69,25 @@ fn side_number(hit: Hit) -> u32
 }
 
 // What a build answered: the number, with `told` written.
-fn tell_build(answer: Built, told: &mut [u64; 2]) -> u32
+#[tactic(auto, unfolding(builder::specs::Reply::reply, crate::specs::Report::refusal_number, crate::specs::Report::counts_told, crate::specs::Report::build_told))]
+fn tell_build(answer: Result<Built, Refused>, told: &mut [u64; 2]) -> u32
     ensures value { result ≡ refusal_number (reply answer).refusal }
     ensures told_after { told.new ≡ build_told (reply answer) }
 {
     match answer {
-        Built::Tree { nodes, leaves } => {
+        Ok(Built { nodes, leaves }) => {
             *told = [nodes as u64, leaves as u64];
             0
         }
-        Built::Refused { number, at } => {
+        Err(Refused { reason, at }) => {
             *told = [at as u64, 0];
-            number
+            reason.number()
         }
     }
 }
 
 // What a walk answered: the number, with `told` written, and `numbers` where it is a hit.
+#[tactic(auto, unfolding(walk::specs::Answer::told, crate::specs::Report::walked, crate::specs::Report::walk_report))]
 fn tell_walk(answer: Answer, numbers: &mut [f64; 9], told: &mut [u64; 5]) -> u32
     ensures { walk result numbers.new told.new ≡ walked (answered answer) numbers.old }
 {
@@ -107,38 +111,40 @@ fn tell_walk(answer: Answer, numbers: &mut [f64; 9], told: &mut [u64; 5]) -> u32
             *told = [0, 0, boxes, triangles, 0];
             0
         }
-        Answer::Refused { number, at } => {
-            *told = [at, 0, 0, 0, 0];
-            number
+        Answer::Refused(Refused { reason, at }) => {
+            *told = [at as u64, 0, 0, 0, 0];
+            reason.number()
         }
     }
 }
 
-// What a sky of rays answered: 0 or the refusal number, with `at` written.
-fn tell_sky(answer: Filled, at: &mut [u64; 1]) -> u32
-    ensures value { result ≡ refusal_number (sky_refusal answer) }
-    ensures at_after { at.new ≡ refusal_at (sky_refusal answer) ∷ [] }
+// What a call answered that has nothing to tell where it is served: 0 or the refusal number, with `at` written.
+#[tactic(auto, unfolding(crate::specs::Report::refusal_number, crate::specs::Report::refusal_at))]
+fn tell_done(answer: Result<(), Refused>, at: &mut [u64; 1]) -> u32
+    ensures value { result ≡ refusal_number (refusal_of answer) }
+    ensures at_after { at.new ≡ refusal_at (refusal_of answer) ∷ [] }
 {
     match answer {
-        Filled::Places => {
+        Ok(()) => {
             *at = [0];
             0
         }
-        Filled::Refused { number, at: place } => {
-            *at = [place];
-            number
+        Err(refused) => {
+            *at = [refused.at as u64];
+            refused.reason.number()
         }
     }
 }
 
 // What a sky of weighed rays answered: 0 with `report` written, or the refusal number; and `at` written.
-fn tell_watts(answer: Counted, report: &mut [u64; 6], at: &mut [u64; 1]) -> u32
-    ensures value { result ≡ refusal_number (watts_refusal answer) }
-    ensures report_after { report.new ≡ report_numbers answer report.old }
-    ensures at_after { at.new ≡ refusal_at (watts_refusal answer) ∷ [] }
+#[tactic(auto, unfolding(watts::specs::Watts::watts_refusal, crate::specs::Report::refusal_number, crate::specs::Report::refusal_at, crate::specs::Report::report_numbers))]
+fn tell_watts(answer: Result<Report, Refused>, report: &mut [u64; 6], at: &mut [u64; 1]) -> u32
+    ensures value { result ≡ refusal_number (watts_refusal (counted answer)) }
+    ensures report_after { report.new ≡ report_numbers (counted answer) report.old }
+    ensures at_after { at.new ≡ refusal_at (watts_refusal (counted answer)) ∷ [] }
 {
     match answer {
-        Counted::Report { figures, share } => {
+        Ok(Report { figures, share }) => {
             *report = [
                 figures.shaded,
                 figures.open,
@@ -150,37 +156,35 @@ fn tell_watts(answer: Counted, report: &mut [u64; 6], at: &mut [u64; 1]) -> u32
             *at = [0];
             0
         }
-        Counted::Refused { number, at: named } => {
-            *at = [named];
-            number
+        Err(refused) => {
+            *at = [refused.at as u64];
+            refused.reason.number()
         }
     }
 }
 
 // What a slab test answered: 1 with `times` written, or 0.
-fn tell_slab(span: Span, times: &mut [f64; 2]) -> u32
+#[tactic(auto, unfolding(crate::specs::Report::slab_report))]
+fn tell_slab(span: Option<Span>, times: &mut [f64; 2]) -> u32
     ensures { test result times.new ≡ slab_report span times.old }
 {
-    match span {
-        Span::Passed { enter, exit } => {
-            *times = [enter, exit];
-            1
-        }
-        Span::Missed => 0,
-    }
+    let Some(Span { enter, exit }) = span else {
+        return 0;
+    };
+    *times = [enter, exit];
+    1
 }
 
 // What a triangle test answered: 2 front or 1 back with `numbers` written, or 0.
-fn tell_triangle(found: Found, numbers: &mut [f64; 9]) -> u32
+#[tactic(auto, unfolding(crate::specs::Report::triangle_report))]
+fn tell_triangle(found: Option<Hit>, numbers: &mut [f64; 9]) -> u32
     ensures { test result numbers.new ≡ triangle_report found numbers.old }
 {
-    match found {
-        Found::At(hit) => {
-            *numbers = hit_numbers(hit);
-            side_number(hit)
-        }
-        Found::Nothing => 0,
-    }
+    let Some(hit) = found else {
+        return 0;
+    };
+    *numbers = hit_numbers(hit);
+    side_number(hit)
 }
 
 // The number of these calls' form: it rises when a call's parameters, or what it writes, change, so that a caller can tell that its declarations
@@ -202,45 +206,48 @@ fn triangle_numbers(t: Triangle) -> [f64; 12]
     ]
 }
 
-// What a call that refills normals answered: 0 or the refusal number, with `told` written.
-fn tell_normals(answer: Refill, told: &mut [u64; 1]) -> u32
-    ensures value { result ≡ refusal_number (refill_refusal answer) }
-    ensures told_after { told.new ≡ refusal_at (refill_refusal answer) ∷ [] }
-{
-    match answer {
-        Refill::Done => {
-            *told = [0];
-            0
-        }
-        Refill::Refused { number, at } => {
-            *told = [at as u64];
-            number
-        }
-    }
-}
-
 // What `accept` answered: the number, with `told` written.
-fn tell_accept(answer: Verdict, told: &mut [u64; 2]) -> u32
+#[tactic(auto, using(lent::proofs::Refusals::no_condition), unfolding(accept::specs::Accept::ruling, crate::specs::Report::refusal_number, crate::specs::Report::condition_told, crate::specs::Report::accept_told))]
+fn tell_accept(answer: Result<(), Rejection>, told: &mut [u64; 2]) -> u32
     ensures value { result ≡ refusal_number (ruling answer).refusal }
     ensures told_after { told.new ≡ accept_told (ruling answer) }
 {
     match answer {
-        Verdict::Accepted => {
+        Ok(()) => {
             *told = [0, 0];
             0
         }
-        Verdict::Refused {
-            number,
-            condition,
-            at,
-        } => {
-            if number == 19 {
-                *told = [condition as u64, at];
-                return number;
-            }
-            *told = [at, 0];
-            number
+        Err(Rejection::Broken { condition, at }) => {
+            *told = [condition.number() as u64, at as u64];
+            19
         }
+        Err(Rejection::Refused(refused)) => {
+            *told = [refused.at as u64, 0];
+            refused.reason.number()
+        }
+    }
+}
+
+// The mesh and the lists of a tree, as they are lent.
+fn lent_as<'a>(
+    triangles: &'a [f64],
+    materials: &'a [u32],
+    index: &'a [u32],
+    boxes: &'a [f64],
+    links: &'a [u32],
+) -> Lent<'a>
+    ensures { result ≡ lent triangles.now materials.now index.now boxes.now links.now }
+{
+    Lent {
+        mesh: Mesh {
+            triangles,
+            materials,
+        },
+        tree: Lists {
+            index,
+            boxes,
+            links,
+        },
     }
 }
 
@@ -274,7 +281,8 @@ pub fn pigeonmast_walk(
 ) -> u32
     ensures { walk result numbers.new told.new ≡ walked (scene.walk (lent triangles.now materials.now index.now boxes.now links.now) (ray_at ray.now 0)) numbers.old }
 {
-    let answer = walk::walk(triangles, materials, index, boxes, links, Ray::read(ray, 0));
+    let scene = lent_as(triangles, materials, index, boxes, links);
+    let answer = walk::walk(&scene, Ray::read(ray, 0));
     tell_walk(answer, numbers, told)
 }
 
@@ -295,8 +303,9 @@ pub fn pigeonmast_sky(
 ) -> u32
     ensures { sky result at.new times.new told.new ≡ sky_report (filled (lent triangles.now materials.now index.now boxes.now links.now) rays.now times.old told.old) }
 {
-    let answer = sky::sky(triangles, materials, index, boxes, links, rays, times, told);
-    tell_sky(answer, at)
+    let scene = lent_as(triangles, materials, index, boxes, links);
+    let answer = sky::sky(&scene, rays, times, told);
+    tell_done(answer, at)
 }
 
 // The slab test of a box (min x, y, z, max x, y, z) and a ray (origin, direction). 1 and times = enter, exit; or 0 and times unchanged.
@@ -339,7 +348,7 @@ pub fn pigeonmast_normals(triangles: &mut [f64], told: &mut [u64; 1]) -> u32
     ensures { normals result told.new triangles.new ≡ normals_report (refilled triangles.old) }
 {
     let answer = triangle::refill_normals(triangles);
-    tell_normals(answer, told)
+    tell_done(answer, told)
 }
 
 // Walks every ray as `pigeonmast_sky` does, into the same times and told, and weighs it: `weights` has its watts, one number a ray. 0 and at = 0:
@@ -361,9 +370,8 @@ pub fn pigeonmast_watts(
 ) -> u32
     ensures { watts result report.new at.new times.new told.new ≡ watts_report (weighed (lent triangles.now materials.now index.now boxes.now links.now) rays.now weights.now times.old told.old) report.old }
 {
-    let answer = watts::watts(
-        triangles, materials, index, boxes, links, rays, weights, times, told,
-    );
+    let scene = lent_as(triangles, materials, index, boxes, links);
+    let answer = watts::watts(&scene, rays, weights, times, told);
     tell_watts(answer, report, at)
 }
 
@@ -390,23 +398,29 @@ pub fn pigeonmast_accept(
 ) -> u32
     ensures { accept result told.new work.new ≡ accept_report (accepted (foreign triangles.now index.now boxes.now links.now) work.old) }
 {
-    let answer = accept::accept(triangles, index, boxes, links, work);
+    let tree = Lists {
+        index,
+        boxes,
+        links,
+    };
+    let answer = accept::accept(triangles, &tree, work);
     tell_accept(answer, told)
 }
 
 // What a reading or a writing of STL answered: 0 or the refusal number, with `told` written.
-fn tell_stl(answer: stl::Answer, told: &mut [u64; 1]) -> u32
+#[tactic(auto, unfolding(stl::specs::Answers::told, crate::specs::Report::refusal_number, crate::specs::Report::how_many, crate::specs::Report::stl_told))]
+fn tell_stl(answer: Result<usize, Refused>, told: &mut [u64; 1]) -> u32
     ensures value { result ≡ refusal_number (stl_answered answer).refusal }
     ensures told_after { told.new ≡ stl_told (stl_answered answer) }
 {
     match answer {
-        stl::Answer::Done(count) => {
+        Ok(count) => {
             *told = [count as u64];
             0
         }
-        stl::Answer::Refused { number, at: place } => {
-            *told = [place as u64];
-            number
+        Err(refused) => {
+            *told = [refused.at as u64];
+            refused.reason.number()
         }
     }
 }
