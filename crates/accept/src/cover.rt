@@ -20,7 +20,7 @@ fn more(work: &mut [u32], from: usize, at: usize)
     }
 }
 
-// Counts one more that ends before a place.
+// Counts one more that ends before a place. Not one function with `more`: they differ in the sign, and one that is told it would be no plainer.
 fn fewer(work: &mut [u32], from: usize, at: usize)
     requires { (k : ℕ) → k < length work.old → 0 < get_or work.old k 0 }
     ensures work_len_unchanged { length work.new ≡ length work.old }

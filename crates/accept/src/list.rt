@@ -13,6 +13,7 @@ pub fn first_misplaced(index: &[u32], n: usize, work: &mut [u32]) -> Option<usiz
     ensures work_len_unchanged { length work.new ≡ length work.old }
     ensures value { result ≡ lacking n index.now (lowest (misplaced n index.now) 0 (length index.now)) }
 {
+    // Not a `find`: it writes down what it has seen, and of what a closure writes a proof knows nothing.
     for p in 0..index.len() {
         let k = index[p] as usize;
         if n <= k || work[k] != UNSEEN {

@@ -10,7 +10,7 @@ use crate::{nodes, partition, range, split};
 
 // The range, whose first stands at `first` of the index list, is divided as the tree at `node`. Nodes from `next` on are free, and `below` levels may
 // still come below it. The children's numbers are the next two; the left side is done, with all below it, before the right is begun (rule C6). The
-// answer is the next free node number; none where the tree is too deep.
+// answer is the next free node number; none where the tree is too deep. `index`, `boxes` and `links` are no struct: it would be made anew for each half.
 pub fn subdivide(
     triangles: &[f64],
     index: &mut [u32],

@@ -9,7 +9,7 @@ mod partition; // partition.rt: the partition of a range
 mod ordering; // ordering.rt: the fallback order
 mod nodes; // nodes.rt: a node, written
 mod division; // division.rt: the division of a range, which calls itself
-mod start; // start.rt: what is tested and written before and after the division
+mod start; // start.rt: what is tested and written before the division
 
 ghost use Rattle.std.specs.Prelude.{◌≡◌, ◌+◌, ◌*◌, ◌/◌, ◌≤◌, ◌-◌, length};
 ghost use Rattle.lent.specs.Limits.{most_triangles, deepest};

@@ -82,7 +82,7 @@ pub fn greater_child(triangles: &[f64], index: &[u32], axis: usize, i: usize) ->
     }
 }
 
-// The number at `at` goes down to its place: what was a heap below `at` is one from `at` on.
+// The number at `at` goes down to its place, from child to child: what was a heap below `at` is one from `at` on.
 pub fn sift(triangles: &[f64], index: &mut [u32], axis: usize, at: usize)
     requires index_len_bound { (length index.old ≤ most_triangles) × (at < length index.old) }
     requires heap_from { HeapFrom (sorts_before (centroid_at triangles.now axis)) (at + 1) index.old }

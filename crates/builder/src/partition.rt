@@ -6,7 +6,8 @@ ghost use Rattle.builder.specs.Fallback.{separated};
 
 use crate::{ordering, range};
 
-// Whatever lies below the position stays on the left, all else is sent to the right end. The answer is how many are on the left.
+// Whatever lies below the position stays on the left, all else is sent to the right end. The answer is how many are on the left. Both ends move, so the
+// loop counts nothing.
 #[tactic(auto, using(crate::proofs::Parting::turns))]
 pub fn partition(triangles: &[f64], index: &mut [u32], axis: usize, position: f64) -> usize
     ensures { parts index.new result ≡ parted triangles.now axis position index.old }

@@ -16,7 +16,7 @@ pub struct Hull {
     pub centroids: Aabb,
 }
 
-// Three numbers that are there.
+// Three numbers that are there. Triangle has the same, inside: public, it would ask something of its caller; and `Vec3::read` tests each vector.
 #[tactic(auto, unfolding(aabb::specs::Vector::vector_at))]
 fn three(triangles: &[f64], at: usize) -> Vec3
     requires { at + 3 ≤ length triangles.now }

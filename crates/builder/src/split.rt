@@ -15,6 +15,7 @@ use crate::bins::{Axes, Bin};
 use crate::range::Hull;
 use aabb::{Aabb, Vec3};
 
+// The Rust's own enum, by its names.
 #[derive(Clone, Copy)]
 pub enum SplitDecision {
     Split { axis: usize, position: f64 },

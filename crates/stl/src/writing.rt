@@ -63,7 +63,6 @@ fn put_triangle(out: &mut [u8], t: Triangle)
     out[49] = 0;
 }
 
-#[tactic(auto, using(crate::proofs::Placing::vector_is))]
 fn put_vector(out: &mut [u8], a: Vec3)
     requires { (length out.old ≡ 12) × T (all exactly32 a) }
     ensures { out.new ≡ vector_bytes a }

@@ -3,37 +3,35 @@
 use mathlib.Core.Path.{◌≡◌, refl}
 use mathlib.Core.Bool.{Bool, true, false, ◌||◌, cond}
 use mathlib.Core.List.{List}
-use Prim.Native.Nat.{ℕ, zero, suc, ◌+◌, ◌^◌, ◌≤◌, ◌<◌}
+use Prim.Native.Nat.{ℕ, zero, suc, ◌+◌, ◌≤◌}
 use native.Mathlib.Omega.{arith}
 use borrow.Author.Tests.{leb-false, ltb-false}
-use lib.Dec.{leb, ltb, eqb}
+use lib.Dec.{leb, ltb}
 use lib.ListN.{length, get_or}
 use lib.Ieee.{Float}
 use Rattle.float.proofs.Cases.{neither}
 use Rattle.aabb.specs.declared.vector.Ray.{Ray}
-use Rattle.aabb.specs.Slab.{passes}
 use Rattle.triangle.specs.Mesh.{triangle_at, admitted_triangle}
 use Rattle.walk.specs.declared.tally.Tally.{Tally}
 use Rattle.walk.specs.declared.turn.Turn.{Turn}
-use Rattle.walk.specs.declared.turn.Turn.TheVariants.{Missed, Open}
+use Rattle.walk.specs.declared.turn.Turn.TheVariants.{Open}
 use Rattle.std.specs.Prelude.{Result, Ok}
 use Rattle.lent.specs.declared.refusal.Reason.TheVariants.{BadTriangle, BadNode, BadEntry, Full}
 use Rattle.lent.specs.declared.refusal.Refused.{Refused}
 use Rattle.walk.specs.inner.State.{refuse}
 use Rattle.tree.specs.declared.Node.{Node}
-use Rattle.tree.specs.Lent.{Lists, node_count}
 use Rattle.lent.specs.Limits.{most_pending}
 use Rattle.lent.specs.Ladder.{triangle_count}
-use Rattle.tree.specs.Node.{left_or_first, node_of, sound, left_of, right_of}
+use Rattle.tree.specs.Node.{left_or_first, left_of, right_of}
 use Rattle.walk.specs.Walk.{tested}
-use Rattle.walk.specs.inner.Turns.{Counted, Leaves, scan, open_leaf, open_internal, opened, judged, visit}
+use Rattle.walk.specs.inner.Turns.{Counted, Leaves, scan, open_leaf, open_internal}
 
 either : (P : Result Turn Refused → Type 0) (d : Bool) (t u : Result Turn Refused) → (d ≡ true → P t) → (d ≡ false → P u) → P (cond d t u)
 either P true t u f g = f refl
 either P false t u f g = g refl
 
 module _ (nodes besides boxes most : ℕ) where
-  abbrev P : Result Turn Refused → Type 0
+  abbrev pub P : Result Turn Refused → Type 0
   P t = Leaves nodes besides boxes most t
 
   one_more : (mesh : List Float) (r : Ray) (k t : ℕ) (a : Tally) → Counted boxes t a → Counted boxes (t + 1) (tested mesh r k a)
@@ -50,13 +48,13 @@ module _ (nodes besides boxes most : ℕ) where
       either P (leb (triangle_count mesh) k) (refuse BadEntry p) (cond fit rest (refuse BadTriangle k)) (λ e. tt)
       (λ e. either P fit rest (refuse BadTriangle k) (λ f. scanned mesh index r (t + 1) count (suc p) (tested mesh r k a) (one_more mesh r k t a h) (omega arith)) (λ f. tt))
 
-  leaf_opened : (mesh : List Float) (index : List ℕ) (r : Ray) (i t : ℕ) (x : Node) (a : Tally) → Counted boxes t a → t + x.count ≤ most → P (open_leaf mesh index r i x a)
+  pub leaf_opened : (mesh : List Float) (index : List ℕ) (r : Ray) (i t : ℕ) (x : Node) (a : Tally) → Counted boxes t a → t + x.count ≤ most → P (open_leaf mesh index r i x a)
   unfolding open_leaf
   leaf_opened mesh index r i t x a h l =
       either P (ltb (length index) (left_or_first x + x.count)) (refuse BadNode i) (scan mesh index r x.count (left_or_first x) a) (λ e. tt)
       (λ e. scanned mesh index r t x.count (left_or_first x) a h l)
 
-  internal_opened : (i : ℕ) (x : Node) → P (open_internal nodes i x besides)
+  pub internal_opened : (i : ℕ) (x : Node) → P (open_internal nodes i x besides)
   unfolding open_internal
   internal_opened i x =
       let l = leb nodes (left_of i x) in
@@ -70,23 +68,3 @@ module _ (nodes besides boxes most : ℕ) where
         right_there = leb-false nodes (right_of i x) (neither l r e).1;
         room = ltb-false most_pending (besides + 2) f;
       }))
-
-module _ (mesh : List Float) (s : Lists) (r : Ray) (i besides : ℕ) (a : Tally) (few : (node_of s i).count < 2 ^ 32) where
-  abbrev Q : Result Turn Refused → Type 0
-  Q t = Leaves (node_count s.links) besides a.boxes (a.triangles + 2 ^ 32) t
-
-  pub visited : Q (visit mesh s r i besides a)
-  unfolding visit judged opened
-  visited =
-      let n = node_count s.links in
-      let x = node_of s i in
-      let leaf = open_leaf mesh s.index r i x a in
-      let internal = open_internal n i x besides in
-      let t = a.triangles in
-      either Q (sound x) (cond (passes r x.bounds) (cond (eqb x.kind 1) leaf internal) (Ok Missed)) (refuse BadNode i)
-      (λ e. either Q (passes r x.bounds) (cond (eqb x.kind 1) leaf internal) (Ok Missed)
-      (λ f. either Q (eqb x.kind 1) leaf internal
-      (λ g. leaf_opened n besides a.boxes (t + 2 ^ 32) mesh s.index r i t x a (record { tests = refl; most = omega arith }) (omega (arith, few)))
-      (λ g. internal_opened n besides a.boxes (t + 2 ^ 32) i x))
-      (λ f. tt))
-      (λ e. tt)

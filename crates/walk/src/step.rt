@@ -40,6 +40,7 @@ pub fn open_internal(nodes: usize, i: u32, x: Node, besides: usize) -> Result<Tu
 }
 
 // Node i, with `besides` pending besides. Its box test is counted already.
+#[tactic(auto, unfolding(crate::specs::inner::Turns::visit, crate::specs::inner::Turns::judged, crate::specs::inner::Turns::opened, aabb::specs::Slab::slab))]
 pub fn visit(scene: &Lent, aim: Aim, i: u32, besides: usize, a: Tally) -> Result<Turn, Refused>
     requires { Ready scene.now.tree.links i besides a × (aim ≡ aimed aim.ray) }
     ensures turn { result ≡ visit scene.now.mesh.triangles scene.now.tree aim.ray i besides a }
