@@ -38,6 +38,7 @@ use walk::Answer;
 use watts::Report;
 
 // A hit's nine numbers: t, point, normal, u, v.
+#[tactic(auto, unfolding(crate::specs::Report::hit_numbers))]
 fn hit_numbers(hit: Hit) -> [f64; 9]
     ensures { result ≡ hit_numbers hit }
 {
@@ -55,6 +56,7 @@ fn hit_numbers(hit: Hit) -> [f64; 9]
 }
 
 // 1 for a hit from the front, 0 from the back.
+#[tactic(auto, unfolding(crate::specs::Report::front_number))]
 fn front_number(hit: Hit) -> u64
     ensures { result ≡ front_number hit }
 {
@@ -62,6 +64,7 @@ fn front_number(hit: Hit) -> u64
 }
 
 // 2 for a hit from the front, 1 from the back.
+#[tactic(auto, unfolding(crate::specs::Report::side_number))]
 fn side_number(hit: Hit) -> u32
     ensures { result ≡ side_number hit }
 {
@@ -196,6 +199,7 @@ pub fn pigeonmast_abi() -> u32
 }
 
 // A triangle's twelve numbers: v0, v1, v2, normal.
+#[tactic(auto, unfolding(triangle::specs::Mesh::triangle_numbers))]
 fn triangle_numbers(t: Triangle) -> [f64; 12]
     ensures { result ≡ triangle_numbers t }
 {
@@ -253,6 +257,7 @@ fn lent_as<'a>(
 
 // Builds the tree of the triangles (twelve numbers each: v0, v1, v2, normal) into the lent index list, boxes and links. 0 and told = node
 // count, leaf count; or the refusal number and told = at, 0. `builder::build` says what is written and what is refused.
+#[tactic(auto, unfolding(crate::specs::Report::build_report))]
 pub fn pigeonmast_build(
     triangles: &[f64],
     index: &mut [u32],
@@ -290,6 +295,7 @@ pub fn pigeonmast_walk(
 // five numbers a ray: outcome (0 a miss, 100 a hit, or a refusal), the triangle's number or the refusal's at, box tests, triangle tests, material,
 // 0 where none applies; room beyond the rays stays. Or refusal 1, 2, 18, 14 or 13 of the whole call (`sky::sky`) with its at; times and told stay
 // unchanged.
+#[tactic(auto, unfolding(crate::specs::Report::sky_report))]
 pub fn pigeonmast_sky(
     triangles: &[f64],
     materials: &[u32],
@@ -344,6 +350,7 @@ pub fn pigeonmast_new(corners: &[f64; 9], triangle: &mut [f64; 12])
 
 // Refills the normals of the triangles (twelve numbers each) from their corners, in place, and touches nothing else. 0 and told = 0; or refusal 1, 2 or 5
 // (`triangle::refill_normals`) with told = at and the triangles unchanged.
+#[tactic(auto, unfolding(crate::specs::Report::normals_report))]
 pub fn pigeonmast_normals(triangles: &mut [f64], told: &mut [u64; 1]) -> u32
     ensures { normals result told.new triangles.new ≡ normals_report (refilled triangles.old) }
 {
@@ -355,6 +362,7 @@ pub fn pigeonmast_normals(triangles: &mut [f64], told: &mut [u64; 1]) -> u32
 // report = shaded watts (hits), open watts (misses), refused watts, total watts, and shaded over shaded and open together in lowest terms, above and
 // below, 0 and 1 when those are 0. Or the refusal of the whole call with its at, `pigeonmast_sky`'s, 27 or 28 (`watts::watts`); report, times and
 // told stay unchanged.
+#[tactic(auto, unfolding(crate::specs::Report::watts_report))]
 pub fn pigeonmast_watts(
     triangles: &[f64],
     materials: &[u32],
@@ -377,6 +385,7 @@ pub fn pigeonmast_watts(
 
 // The share that added figures give: shaded over shaded and open together in lowest terms, share = above, below; 0 and 1 where both are 0; 0 and 0 just
 // where the lower number would pass 64 bits. Answers 0 on every input.
+#[tactic(auto, unfolding(crate::specs::Report::share_numbers))]
 pub fn pigeonmast_share(shaded: u64, open: u64, share: &mut [u64; 2]) -> u32
     ensures value { result ≡ 0 }
     ensures share_after { share.new ≡ share_numbers (share_of shaded «open») }
@@ -388,6 +397,7 @@ pub fn pigeonmast_share(shaded: u64, open: u64, share: &mut [u64; 2]) -> u32
 
 // Judges a tree that was built elsewhere. 0 and told = 0, 0: it is accepted; 19 and told = the number of the first condition broken, 1 to 6, and the
 // lowest place where it breaks; or the refusal number and told = at, 0. `accept::accept` says what is refused, and what the work room holds after it.
+#[tactic(auto, unfolding(crate::specs::Report::accept_report))]
 pub fn pigeonmast_accept(
     triangles: &[f64],
     index: &[u32],
@@ -427,6 +437,7 @@ fn tell_stl(answer: Result<usize, Refused>, told: &mut [u64; 1]) -> u32
 
 // Reads a file of binary STL into the lent triangles (twelve numbers each) and materials (a 0 each). 0 and told = how many triangles; room beyond them stays. Or
 // refusal 15, 2, 16 or 5 (`stl::read`) with told = at, and triangles and materials unchanged.
+#[tactic(auto, unfolding(crate::specs::Report::read_report))]
 pub fn pigeonmast_read_stl(
     file: &[u8],
     triangles: &mut [f64],
@@ -441,6 +452,7 @@ pub fn pigeonmast_read_stl(
 
 // Writes the triangles (twelve numbers each) as a file of binary STL into the lent bytes. 0 and told = how many bytes; room beyond them stays. Or refusal 1, 2, 5,
 // 17 or 16 (`stl::write`) with told = at, and the file unchanged.
+#[tactic(auto, unfolding(crate::specs::Report::write_report))]
 pub fn pigeonmast_write_stl(triangles: &[f64], file: &mut [u8], told: &mut [u64; 1]) -> u32
     ensures { stl_written result told.new file.new ≡ write_report (write_stl triangles.now file.old) }
 {
