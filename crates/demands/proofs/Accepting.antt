@@ -10,7 +10,7 @@ use Rattle.lent.specs.Ladder.{triangle_count}
 use Rattle.tree.specs.Lent.{Lent, Labelled, lent, node_count}
 use Rattle.tree.specs.Tree.{Tree, leaves}
 use Rattle.tree.specs.Accepted.{Accepted}
-use Rattle.accept.specs.declared.Verdict.TheVariants.{Accepted as Fine}
+use Rattle.accept.specs.Accept.{fine}
 use Rattle.accept.specs.Conditions.{foreign}
 use Rattle.accept.proofs.accept.Reads as accept_call
 use Rattle.trusted.specs.Meets.{Roomy}
@@ -58,8 +58,8 @@ alike s t A M =
     record { leaf_count = leaves t; signed = w; sky_signed = λ rays times told. signed_sky s (node_count s.tree.links) (leaves t) rays times told w M }
 
 -- Rule G8: a tree that is accepted, with any list of one material for each triangle
-pub accepted_signed : Gives accept_call.Post (λ κs x r e. r ≡ Fine → (materials : List ℕ) → length materials ≡ triangle_count x.0.now
-    → SignedAlike (lent x.0.now materials x.1.0.now x.1.1.0.now x.1.1.1.0.now))
+pub accepted_signed : Gives accept_call.Post (λ κs x r e. r ≡ fine → (materials : List ℕ) → length materials ≡ triangle_count x.0.now
+    → SignedAlike (lent x.0.now materials x.1.0.now.index x.1.0.now.boxes x.1.0.now.links))
 accepted_signed κs x r e p f materials M =
     let h = (accept_exactly κs x r e p).holds_tree f in
     alike _ h.tree (relabelled _ h.tree materials h.accepted) M
@@ -67,8 +67,8 @@ accepted_signed κs x r e p f materials M =
 -- Rule G8: a tree that was built, handed over as its 2L-1 nodes and n entries, the empty mesh's too, with room for one number a node and a triangle
 pub built_accepted : (mesh : List Float) (index : List ℕ) (boxes : List Float) (links : List ℕ) (nodes leaf_count : ℕ)
     → (built mesh index boxes links).answer ≡ served_reply nodes leaf_count
-    → Gives accept_call.Post (λ κs x r e. handed mesh [] (built mesh index boxes links) ≡ foreign x.0.now x.1.0.now x.1.1.0.now x.1.1.1.0.now
-    → Roomy (handed mesh [] (built mesh index boxes links)) x.1.1.1.1.0.now → r ≡ Fine)
+    → Gives accept_call.Post (λ κs x r e. handed mesh [] (built mesh index boxes links) ≡ foreign x.0.now x.1.0.now.index x.1.0.now.boxes x.1.0.now.links
+    → Roomy (handed mesh [] (built mesh index boxes links)) x.1.1.0.now → r ≡ fine)
 built_accepted mesh index boxes links nodes leaf_count e κs x r o p same room =
     (accept_exactly κs x r o p).tree_held (subst Trusted same (built_tree mesh [] index boxes links nodes leaf_count e))
-    (subst (λ (s : Lent). Roomy s x.1.1.1.1.0.now) same room)
+    (subst (λ (s : Lent). Roomy s x.1.1.0.now) same room)

@@ -10,7 +10,7 @@ use Rattle.lent.proofs.Fixed.{fixed}
 use Rattle.std.specs.Prelude.{Result, Ok, Err, IfOk}
 use Rattle.lent.specs.Refusals.{number, refusal_of}
 use Rattle.lent.specs.declared.refusal.Refused.{Refused as Why}
-use Rattle.lent.proofs.Refusals.{refused_is, answer_is}
+use Rattle.lent.proofs.Refusals.{refused_is, answer_is, count_is}
 use Rattle.triangle.specs.Refilled.{Outcome as Refilling, outcome as refilling}
 use Rattle.builder.specs.declared.Built.{Built}
 use Rattle.builder.specs.Reply.{reply}
@@ -18,14 +18,13 @@ use Rattle.builder.specs.Build.{Outcome, outcome}
 use Rattle.walk.specs.declared.Answer.{Answer}
 use Rattle.walk.specs.declared.Answer.TheVariants.{Struck, Missed, Refused}
 use Rattle.walk.specs.Answer.{Told, told}
-use Rattle.accept.specs.declared.Verdict.{Verdict}
-use Rattle.accept.specs.Accept.{ruling, Outcome as Judging, outcome as judging}
+use Rattle.accept.specs.Accept.{Verdict, ruling, Outcome as Judging, outcome as judging}
 use Rattle.sky.specs.Sky.{Filling, filling}
 use Rattle.street.specs.Making.{Outcome as Making, outcome as making}
 use Rattle.watts.specs.declared.Report.{Report}
-use Rattle.watts.specs.Watts.{Outcome as Weighing}
+use Rattle.watts.specs.Watts.{counted, Outcome as Weighing, outcome as weighing}
 use Rattle.stl.specs.Answers.{told as stl_told, Read, read_as, Written, written_as}
-use Rattle.demands.proofs.Answers.{build_told, accept_told, stl_told_lem}
+use Rattle.demands.proofs.Answers.{build_told, accept_told, counted_told, stl_told_lem}
 use Rattle.float.proofs.infinity.Reads as float_infinity
 use Rattle.float.proofs.magnitude.Reads as float_magnitude
 use Rattle.float.proofs.lesser.Reads as float_lesser
@@ -94,6 +93,10 @@ use Rattle.triangle.proofs.Corners.distance.Reads as corners_distance
 use Rattle.triangle.proofs.Crossing.distance.Reads as crossing_distance
 use Rattle.triangle.proofs.admitted_at.Reads as triangle_admitted_at
 use Rattle.triangle.proofs.first_refused.Reads as triangle_first_refused
+use Rattle.triangle.proofs.count.Reads as triangle_count
+use Rattle.tree.proofs.lists.Mesh.count.Reads as mesh_count
+use Rattle.lent.proofs.refusal.Reason.number.Reads as reason_number
+use Rattle.accept.proofs.rejection.Condition.number.Reads as condition_number
 use Rattle.tree.proofs.Node.read.Reads as node_read
 use Rattle.tree.proofs.Node.sound.Reads as node_sound
 use Rattle.tree.proofs.Node.left.Reads as node_left
@@ -128,11 +131,22 @@ float_fixed = (fixed, fixed, fixed, fixed, fixed, fixed, fixed, fixed, fixed, fi
 pub aabb_fixed : Fixes vec3_plus.Post × Fixes vec3_minus.Post × Fixes vec3_negated.Post × Fixes vec3_scaled.Post × Fixes vec3_divided.Post × Fixes vec3_dot.Post × Fixes vec3_cross.Post × Fixes vec3_least.Post × Fixes vec3_greatest.Post × Fixes vec3_lowest.Post × Fixes vec3_highest.Post × Fixes vec3_along.Post × Fixes vec3_within.Post × Fixes vec3_at_most.Post × Fixes vec3_all_equal.Post × Fixes vec3_read.Post × Fixes aabb_place.Post × Fixes ray_read.Post × Fixes ray_at.Post × Fixes ray_admitted.Post × Fixes aabb_empty.Post × Fixes aabb_from_points.Post × Fixes aabb_grow.Post × Fixes aabb_union.Post × Fixes aabb_widened.Post × Fixes aabb_joined.Post × Fixes aabb_center.Post × Fixes aabb_extent.Post × Fixes aabb_surface_area.Post × Fixes aabb_bounded.Post × Fixes aabb_is_empty.Post × Fixes aabb_usable.Post × Fixes aabb_contains.Post × Fixes aabb_holds.Post × Fixes aabb_read.Post × Fixes aabb_intersect_ray.Post × Fixes sight_of.Post × Fixes aim_of.Post × Fixes aim_through.Post
 aabb_fixed = (fixed, fixed, fixed, fixed, fixed, fixed, fixed, fixed, fixed, fixed, fixed, fixed, fixed, fixed, fixed, fixed, fixed, fixed, fixed, fixed, fixed, fixed, fixed, fixed, fixed, fixed, fixed, fixed, fixed, fixed, fixed, fixed, fixed, fixed, fixed, fixed, fixed, fixed, fixed)
 
--- the calls of `triangle`, but for `refill_normals`
+-- the calls of `triangle`, but for `refill_normals` and `count`
 pub triangle_fixed : Fixes triangle_read.Post × Fixes triangle_aabb.Post × Fixes triangle_corners.Post × Fixes triangle_centroid.Post × Fixes triangle_admitted.Post × Fixes triangle_distance.Post × Fixes triangle_hit.Post × Fixes triangle_intersect.Post × Fixes triangle_new.Post × Fixes corners_read.Post × Fixes corners_centroid.Post × Fixes corners_crossing.Post × Fixes corners_distance.Post × Fixes crossing_distance.Post × Fixes triangle_admitted_at.Post × Fixes triangle_first_refused.Post
 triangle_fixed = (fixed, fixed, fixed, fixed, fixed, fixed, fixed, fixed, fixed, fixed, fixed, fixed, fixed, fixed, fixed, fixed)
 
--- the calls of `tree`
+-- the numbers of reasons and conditions
+pub numbers_fixed : Fixes reason_number.Post × Fixes condition_number.Post
+numbers_fixed = (fixed, fixed)
+
+-- how many triangles a mesh has, or why it is refused
+pub count_fixed : Fixes triangle_count.Post
+count_fixed = record { same = λ κs x r r' e e' p q. count_is r r' _ (p.0 ∙ sym q.0) p.1 q.1 }
+
+pub mesh_count_fixed : Fixes mesh_count.Post
+mesh_count_fixed = record { same = λ κs x r r' e e' p q. count_is r r' _ (p.0 ∙ sym q.0) p.1 q.1 }
+
+-- the calls of `tree`, but for `Mesh::count`
 pub tree_fixed : Fixes node_read.Post × Fixes node_sound.Post × Fixes node_left.Post × Fixes node_right.Post × Fixes tree_misfit.Post × Fixes tree_word.Post
 tree_fixed = (fixed, fixed, fixed, fixed, fixed, fixed)
 
@@ -200,14 +214,17 @@ pub share_fixed : Fixes watts_share.Post
 share_fixed = fixed
 
 -- the answer, and the answer room at the end
+watts_same : (a b : Result Report Why) (x y : List Float) (k l : List ℕ) → weighing (counted a) x k ≡ weighing (counted b) y l → ◌≡◌ {A = Result Report Why × List Float × List ℕ} (a, x, k) (b, y, l)
+watts_same a b x y k l e = let t = counted_told a b (ap (λ (o : Weighing). o.answer) e) in λ z. (t z, (e z).times, (e z).told)
+
 pub watts_fixed : FixesAll watts_watts.Post {C = Result Report Why × List Float × List ℕ} (λ κs r e. (r, e.1.1.1.0.now, e.1.1.1.1.0.now))
-watts_fixed κs x r r' e e' p q = ap (λ (o : Weighing). (o.answer, o.times, o.told)) (p ∙ sym q)
+watts_fixed κs x r r' e e' p q = watts_same r r' _ _ _ _ (p ∙ sym q)
 
 -- the answer, and the work room at the end
 accept_same : (a b : Verdict) (x y : List ℕ) → judging (ruling a) x ≡ judging (ruling b) y → ◌≡◌ {A = Verdict × List ℕ} (a, x) (b, y)
 accept_same a b x y e = let t = accept_told a b (ap (λ (o : Judging). o.answer) e) in λ z. (t z, (e z).work)
 
-pub accept_fixed : FixesAll accept_accept.Post {C = Verdict × List ℕ} (λ κs r e. (r, e.1.1.1.1.0.now))
+pub accept_fixed : FixesAll accept_accept.Post {C = Verdict × List ℕ} (λ κs r e. (r, e.1.1.0.now))
 accept_fixed κs x r r' e e' p q = accept_same r r' _ _ (p ∙ sym q)
 
 -- the answer, and the triangle and material rooms at the end

@@ -1,5 +1,6 @@
 -- Inner nodes do not matter (rule G9): accepted trees with the same collection of leaves have the same hit and as many triangle tests. What a ray reaches is told by
 -- the leaves' boxes alone, and each triangle is reached at one place at most. Assumes nothing.
+use Rattle.triangle.specs.declared.Hit.{Hit}
 use Rattle.std.specs.Prelude.{Option, Some, None}
 use mathlib.Core.Path.{◌≡◌, refl, sym, ap, subst, ◌∙◌}
 use mathlib.Core.Logic.{inl, inr, ⊎_elim}
@@ -34,7 +35,7 @@ use Rattle.tree.specs.Leaves.{range_of, numbers, Leaf, leaves_of}
 use Rattle.tree.specs.Accepted.{Accepted}
 use Rattle.walk.specs.Answer.{Told}
 use Rattle.walk.specs.Walk.{walk}
-use Rattle.accept.specs.declared.Verdict.TheVariants.{Accepted as Fine}
+use Rattle.accept.specs.Accept.{fine}
 use Rattle.accept.proofs.accept.Reads as accept_call
 use Rattle.trusted.specs.Exactly.{Gives, Trusted}
 use Rattle.trusted.proofs.Exactly.{accept_exactly}
@@ -361,10 +362,10 @@ one_tree s i (internal b u v) (internal b' u' v') H K = internal_one (sym H.0.bo
 held_by : (s : Lent) (t : Tree) → Trusted s → Holds s.tree 0 t → (materials : List ℕ) → Accepted (with_materials s materials) t
 held_by s t h H materials = relabelled s t materials (subst (Accepted s) (one_tree s.tree 0 h.tree t h.accepted.walkable.holds H) h.accepted)
 
-pub accepted_agree : Gives accept_call.Post (λ κs x r e. r ≡ Fine → Gives accept_call.Post (λ κs' x' r' e'. r' ≡ Fine → x.0.now ≡ x'.0.now
+pub accepted_agree : Gives accept_call.Post (λ κs x r e. r ≡ fine → Gives accept_call.Post (λ κs' x' r' e'. r' ≡ fine → x.0.now ≡ x'.0.now
     → (materials : List ℕ) → length materials ≡ triangle_count x.0.now
-    → let l = lists_of x.1.0.now x.1.1.0.now x.1.1.1.0.now in
-    let l' = lists_of x'.1.0.now x'.1.1.0.now x'.1.1.1.0.now in
+    → let l = x.1.0.now in
+    let l' = x'.1.0.now in
     (t t' : Tree) → Holds l 0 t → Holds l' 0 t' → SameCollection (leaves_of l t) (leaves_of l' t') → (ray : Ray) → T (admitted_ray ray)
     → Agree (walk (record { mesh = mesh_of x.0.now materials; tree = l }) ray) (walk (record { mesh = mesh_of x'.0.now materials; tree = l' }) ray)))
 accepted_agree κs x r e p f κs' x' r' e' p' f' same materials M t t' H H' C ray R =

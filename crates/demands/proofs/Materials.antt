@@ -1,6 +1,6 @@
 -- The material of a hit is the list's entry of its triangle, and nothing else of an answer depends on the list (request A5): two lists of one length
 -- are carried through the walk side by side, which looks at them only where it is over. Assumes nothing.
-use Rattle.std.specs.Prelude.{Option, Some, None}
+use Rattle.std.specs.Prelude.{Option, Some, None, Result, Ok, Err}
 use mathlib.Core.Path.{◌≡◌, refl, sym, ap}
 use mathlib.Core.List.{List, [], ◌∷◌}
 use Prim.Native.Nat.{ℕ, zero, suc, ◌<◌}
@@ -13,11 +13,12 @@ use Rattle.triangle.specs.declared.Hit.{Hit}
 use Rattle.triangle.specs.Meeting.{hit_at}
 use Rattle.triangle.specs.Mesh.{triangle_at}
 use Rattle.tree.specs.Lent.{Mesh, Lent, material_of, node_count}
-use Rattle.walk.specs.declared.tally.Nearest.{Nearest}
-use Rattle.walk.specs.declared.tally.Nearest.TheVariants.{Unmet, Met}
+use Rattle.walk.specs.declared.tally.Met.{Met}
 use Rattle.walk.specs.declared.tally.Tally.{Tally}
+use Rattle.lent.specs.Refusals.{number}
+use Rattle.lent.specs.declared.refusal.Refused.{Refused}
 use Rattle.walk.specs.declared.turn.Turn.{Turn}
-use Rattle.walk.specs.declared.turn.Turn.TheVariants.{Refuse, Missed, Down, Open}
+use Rattle.walk.specs.declared.turn.Turn.TheVariants.{Missed, Down, Open}
 use Rattle.walk.specs.Answer.{Told}
 use Rattle.walk.specs.Walk.{start, boxed, refused, hit_of, over, run, walk}
 use Rattle.walk.specs.inner.Turns.{visit, onward}
@@ -37,12 +38,12 @@ module _ (s : Lent) (m m' : List ℕ) (r : Ray) (Q : Told → Told → Type 0) (
   steps (suc left) (i ∷ rest) a =
       rw (next_step (with_materials s m) r left rest i a, next_step (with_materials s m') r left rest i a) (go (visit s.mesh.triangles s.tree r i (length rest) (boxed a)) (steps left))
     where
-      go : (t : Turn) → ((pending : List ℕ) (b : Tally) → Q (run (with_materials s m) r left pending b) (run (with_materials s m') r left pending b))
+      go : (t : Result Turn Refused) → ((pending : List ℕ) (b : Tally) → Q (run (with_materials s m) r left pending b) (run (with_materials s m') r left pending b))
           → Q (onward t rest (boxed a) (run (with_materials s m) r left)) (onward t rest (boxed a) (run (with_materials s m') r left))
-      go (Refuse k j) f = stop k j
-      go Missed f = f rest (boxed a)
-      go (Down b) f = f rest b
-      go (Open left' right) f = f (left' ∷ right ∷ rest) (boxed a)
+      go (Err e) f = stop (number e.reason) e.at
+      go (Ok Missed) f = f rest (boxed a)
+      go (Ok (Down b)) f = f rest b
+      go (Ok (Open left' right)) f = f (left' ∷ right ∷ rest) (boxed a)
 
   either : (x : Refusal) (a b : Told) → Q a b → Q (answered x refused a) (answered x refused b)
   unfolding answered
@@ -54,10 +55,10 @@ module _ (s : Lent) (m m' : List ℕ) (r : Ray) (Q : Told → Told → Type 0) (
   both e = rw e (either _ _ _ (steps (node_count s.tree.links) (0 ∷ []) start))
 
 -- ---- nothing but the material depends on the list
-plain_hit : (t : List Float) (m m' : List ℕ) (r : Ray) (b : Nearest) → plain_found (hit_of (record { triangles = t; materials = m }) r b) ≡ plain_found (hit_of (record { triangles = t; materials = m' }) r b)
+plain_hit : (t : List Float) (m m' : List ℕ) (r : Ray) (b : Option Met) → plain_found (hit_of (record { triangles = t; materials = m }) r b) ≡ plain_found (hit_of (record { triangles = t; materials = m' }) r b)
 unfolding hit_of hit_at
-plain_hit t m m' r Unmet = refl
-plain_hit t m m' r (Met u k) = refl
+plain_hit t m m' r None = refl
+plain_hit t m m' r (Some b) = refl
 
 pub same_but : (s : Lent) (m m' : List ℕ) → length m ≡ length m' → (r : Ray) → SameBut (walk (with_materials s m) r) (walk (with_materials s m') r)
 unfolding over
@@ -69,10 +70,10 @@ same_but s m m' e r =
 abbrev Entered : Mesh → Told → Type 0
 Entered m a = (h : Hit) → a.hit ≡ Some h → h.material ≡ material_of m h.triangle
 
-hit_entry : (m : Mesh) (r : Ray) (b : Nearest) (h : Hit) → hit_of m r b ≡ Some h → h.material ≡ material_of m h.triangle
+hit_entry : (m : Mesh) (r : Ray) (b : Option Met) (h : Hit) → hit_of m r b ≡ Some h → h.material ≡ material_of m h.triangle
 unfolding hit_of
-hit_entry m r Unmet h e = absurd (nowhere e)
-hit_entry m r (Met t k) h e = go (hit_at r (triangle_at m.triangles k) k (material_of m k) t) (unfold hit_at in refl) e
+hit_entry m r None h e = absurd (nowhere e)
+hit_entry m r (Some b) h e = go (hit_at r (triangle_at m.triangles b.number) b.number (material_of m b.number) b.t) (unfold hit_at in refl) e
   where
     go : (x : Hit) → x.material ≡ material_of m x.triangle → Some x ≡ Some h → h.material ≡ material_of m h.triangle
     go x i e = let j : x ≡ h = cc in rw (← j) i

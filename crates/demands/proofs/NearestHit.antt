@@ -24,10 +24,9 @@ use Rattle.triangle.specs.Meeting.{distance, hit_at, found, strike}
 use Rattle.triangle.specs.Spot.{Inside}
 use Rattle.triangle.proofs.Finite.{strike_finite}
 use Rattle.triangle.proofs.Spot.{spot_inside}
-use Rattle.walk.specs.declared.tally.Nearest.{Nearest}
-use Rattle.walk.specs.declared.tally.Nearest.TheVariants.{Unmet, Met}
+use Rattle.walk.specs.declared.tally.Met.{Met}
 use Rattle.tree.specs.Lent.{Mesh, Lent, Labelled, material_of}
-use Rattle.walk.specs.Walk.{replaces as replaces_by, nearer as nearer_by, after, hit_of, over, walk}
+use Rattle.walk.specs.Walk.{met, replaces as replaces_by, nearer as nearer_by, after, hit_of, over, walk}
 use Rattle.tree.specs.Tree.{Tree, leaf, internal}
 use Rattle.tree.specs.Holds.{Holds}
 use Rattle.tree.specs.Accepted.{Walkable}
@@ -38,9 +37,9 @@ use Rattle.lent.specs.Members.{Every, Any}
 use Rattle.demands.specs.NearestHit.{Admitted, finds, Ahead, NearestAt, NothingAt}
 
 -- ---- with the whole hit carried, where the walk carries its t and its number
-abbrev bare : Option Hit → Nearest
-bare None = Unmet
-bare (Some h) = Met h.t h.triangle
+abbrev bare : Option Hit → Option Met
+bare None = None
+bare (Some h) = met h.t h.triangle
 
 abbrev replaces : Option Hit → Hit → Bool
 replaces best h = replaces_by (bare best) h.triangle h.t
@@ -53,21 +52,21 @@ abbrev nearest : Lent → Ray → Option Hit → List ℕ → Option Hit
 nearest s r best [] = best
 nearest s r best (p ∷ ps) = nearest s r (nearer best (finds s r p)) ps
 
-same_replaces : (m : Mesh) (r : Ray) (b : Nearest) (k : ℕ) (t : Float) → replaces (hit_of m r b) (hit_at r (triangle_at m.triangles k) k (material_of m k) t) ≡ replaces_by b k t
+same_replaces : (m : Mesh) (r : Ray) (b : Option Met) (k : ℕ) (t : Float) → replaces (hit_of m r b) (hit_at r (triangle_at m.triangles k) k (material_of m k) t) ≡ replaces_by b k t
 unfolding hit_of hit_at
-same_replaces m r Unmet k t = refl
-same_replaces m r (Met u j) k t = refl
+same_replaces m r None k t = refl
+same_replaces m r (Some b) k t = refl
 
-same_cond : (m : Mesh) (r : Ray) (q : Bool) (a b : Nearest) → hit_of m r (cond q a b) ≡ cond q (hit_of m r a) (hit_of m r b)
+same_cond : (m : Mesh) (r : Ray) (q : Bool) (a b : Option Met) → hit_of m r (cond q a b) ≡ cond q (hit_of m r a) (hit_of m r b)
 same_cond m r true a b = refl
 same_cond m r false a b = refl
 
-same_nearer : (m : Mesh) (r : Ray) (b : Nearest) (k : ℕ) (d : Option Float) → hit_of m r (nearer_by b k d) ≡ nearer (hit_of m r b) (found r (triangle_at m.triangles k) k (material_of m k) d)
+same_nearer : (m : Mesh) (r : Ray) (b : Option Met) (k : ℕ) (d : Option Float) → hit_of m r (nearer_by b k d) ≡ nearer (hit_of m r b) (found r (triangle_at m.triangles k) k (material_of m k) d)
 unfolding nearer_by nearer found
 same_nearer m r b k None = refl
-same_nearer m r b k (Some t) = same_cond m r (replaces_by b k t) (Met t k) b ∙ rw (same_replaces m r b k t) (unfold hit_of in refl)
+same_nearer m r b k (Some t) = same_cond m r (replaces_by b k t) (met t k) b ∙ rw (same_replaces m r b k t) (unfold hit_of in refl)
 
-same_nearest : (s : Lent) (r : Ray) (ps : List ℕ) (b : Nearest) → hit_of s.mesh r (nearest_of s r b ps) ≡ nearest s r (hit_of s.mesh r b) ps
+same_nearest : (s : Lent) (r : Ray) (ps : List ℕ) (b : Option Met) → hit_of s.mesh r (nearest_of s r b ps) ≡ nearest s r (hit_of s.mesh r b) ps
 unfolding after strike
 same_nearest s r [] b = refl
 same_nearest s r (p ∷ ps) b =
@@ -212,11 +211,11 @@ module _ (s : Lent) (r : Ray) where
 
   -- ---- from no hit on
   abbrev pub hit_among : List ℕ → Option Hit
-  hit_among ps = hit_of s.mesh r (nearest_of s r Unmet ps)
+  hit_among ps = hit_of s.mesh r (nearest_of s r None ps)
 
   carried : (ps : List ℕ) → nearest s r None ps ≡ hit_among ps
   unfolding hit_of
-  carried ps = sym (same_nearest s r ps Unmet)
+  carried ps = sym (same_nearest s r ps None)
 
   -- a hit is the nearest of those at the places, the lowest triangle number winning a tie
   pub nearest_at : (ps : List ℕ) → Every Finite ps → (h : Hit) → hit_among ps ≡ Some h → NearestAt s r ps h

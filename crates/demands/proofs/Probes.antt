@@ -5,6 +5,7 @@ use lib.Dec.{T}
 use lib.Ieee.{is_nan, lt, le, eq, add, sub, mul, div, neg, of_bits, of_int, sum, round, units, odd, size, span, climb}
 use lib.Ieee.Fits.{and_l, and_r}
 use lib.Count.{count_trailing_zeros}
+use Rattle.lent.specs.Lowest.{lowest}
 use Rattle.lent.specs.Ladder.{unless, first_failed, answered}
 use Rattle.lent.specs.Flat.{put}
 use Rattle.float.specs.Pick.{lesser, greater}
@@ -57,7 +58,7 @@ claims (p ∷ ps) h = (claim p (and_l (holds p) (all_hold ps) h), claims ps (and
 
 -- the test, computed over the whole table
 table : T (all_hold probes)
-unfolding probes handed_as handed built_whole root_box lesser greater plus aabb_minus negated scaled divided least greatest dot minor cross along within all_within all_at_most all_equal vector_at point_at admitted_ray empty_box grown union of_three extent area_of area bounded is_empty usable box_at sighted aimed sight_on reach first second parallel unless_later clipped narrowed and_then ahead on_axis through_from through slab triangle_at corners_of bounds_of centroid_of admitted_triangle bounds_at centroid_at edge1 edge2 pvec det inv_det tvec qvec u_of v_of t_of judged distance_to distance faces hit_at box_from node_box centroids_from centroid_box no_bin with_box join_bins bin_of bin_for filled suffix_of weight cost_of better_of sweep_from try_axis leaf_cost best_of_axes chosen best_split moves keeps_left parted under_at sorts_before insert sorted ordered settled separated joined decision leaf_of grow put box_put link_put boxes_of links_of up_to room first_refused unadmitted finished built linked node_at sound left_of right_of boxed replaces nearer after tested hit_of over run misfit walk unless first_failed answered is_nan lt le eq add sub mul div neg of_bits of_int sum round units odd size span climb count_trailing_zeros walk_then entries leaf_by internal_by step_by steps triangle_entry
+unfolding probes handed_as handed built_whole root_box lesser greater plus aabb_minus negated scaled divided least greatest dot minor cross along within all_within all_at_most all_equal vector_at point_at admitted_ray empty_box grown union of_three extent area_of area bounded is_empty usable box_at sighted aimed sight_on reach first second parallel unless_later clipped narrowed and_then ahead on_axis through_from through slab triangle_at corners_of bounds_of centroid_of admitted_triangle bounds_at centroid_at edge1 edge2 pvec det inv_det tvec qvec u_of v_of t_of judged distance_to distance faces hit_at box_from node_box centroids_from centroid_box no_bin with_box join_bins bin_of bin_for filled suffix_of weight cost_of better_of sweep_from try_axis leaf_cost best_of_axes chosen best_split moves keeps_left parted under_at sorts_before insert sorted ordered settled separated joined decision leaf_of grow put box_put link_put boxes_of links_of up_to room lowest first_refused unadmitted finished built linked node_at sound left_of right_of boxed replaces nearer after tested hit_of over run misfit walk unless first_failed answered is_nan lt le eq add sub mul div neg of_bits of_int sum round units odd size span climb count_trailing_zeros walk_then entries leaf_by internal_by step_by steps triangle_entry
 table = tt
 
 -- P1 to P13

@@ -1,6 +1,6 @@
 -- The hit depends on which triangles stand at the places that are reached, and not on the order of the places nor on how often one is met: of two hits
 -- that are each ahead of the other the numbers are equal, and a number and a ray tell the hit. Assumes nothing.
-use Rattle.std.specs.Prelude.{Option, Some, None}
+use Rattle.std.specs.Prelude.{Float, Option, Some, None}
 use mathlib.Core.Path.{◌≡◌, refl, sym, ap, subst, ◌∙◌}
 use mathlib.Core.Logic.{◌⊎◌, inl, inr}
 use mathlib.Core.Bool.{Bool, true, false, cond}

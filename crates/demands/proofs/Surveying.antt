@@ -9,9 +9,8 @@ use Rattle.float.specs.Number.{nought}
 use Rattle.lent.specs.Ladder.{Refusal, none, triangle_count}
 use Rattle.builder.specs.Build.{Outcome}
 use Rattle.builder.proofs.Successes.{served_reply_lem}
-use Rattle.report.specs.declared.input.Input.TheVariants.{Good}
 use Rattle.report.specs.Little.{number, numbers}
-use Rattle.report.specs.Input.{triangles_at, rays_at, measured}
+use Rattle.report.specs.Input.{triangles_at, rays_at, good, measured}
 use Rattle.report.specs.Lines.{built_line}
 use Rattle.report.specs.Survey.{ray_lines, handed as survey_handed, built_of, report_of, reported, surveyed_as, surveyed}
 use Rattle.demands.specs.Handed.{handed_as, handed}
@@ -24,7 +23,7 @@ unfolding numbers
 numbers_length bytes at zero = refl
 numbers_length bytes at (suc k) = length-append (numbers bytes at k) (number bytes (at + 8 * k) ∷ []) ∙ omega (arith, numbers_length bytes at k)
 
-module _ (bytes : List ℕ) (n m : ℕ) (good : measured bytes ≡ Good n m) where
+module _ (bytes : List ℕ) (n m : ℕ) (is_good : measured bytes ≡ good n m) where
   abbrev mesh : List Float
   mesh = numbers bytes triangles_at (n * 12)
 
@@ -37,7 +36,7 @@ module _ (bytes : List ℕ) (n m : ℕ) (good : measured bytes ≡ Good n m) whe
 
   report_is : surveyed bytes ≡ report_of bytes mesh n m (built_of mesh) (built_of mesh).answer.refusal
   unfolding surveyed surveyed_as reported
-  report_is = rw good
+  report_is = rw is_good
 
   lines : (o : Outcome) (w : Refusal) → w ≡ none → report_of bytes mesh n m o w ≡ built_line o.answer.nodes o.answer.leaves ++ ray_lines bytes (rays_at n) (survey_handed mesh n o.answer.nodes o) m
   unfolding report_of

@@ -1,5 +1,6 @@
 -- A walk of an accepted tree: no refusal, and the counts and the hit are those of the nodes and leaves whose own box the ray passes. Walking
 -- a tree with the rest pending is counting the tree and then walking the rest. Assumes nothing.
+use Rattle.std.specs.Prelude.{Option, Result, Ok}
 use mathlib.Core.Path.{◌≡◌, refl, sym, ap, ◌∙◌}
 use mathlib.Core.Bool.{Bool, true, false, not, cond}
 use mathlib.Core.List.{List, [], ◌∷◌, ◌++◌}
@@ -17,8 +18,9 @@ use Rattle.aabb.specs.Bounds.{bounded, usable, contains}
 use Rattle.aabb.specs.Slab.{passes}
 use Rattle.aabb.proofs.Inside.{usable_inside}
 use Rattle.triangle.specs.Mesh.{triangle_at, admitted_triangle}
-use Rattle.walk.specs.declared.tally.Nearest.{Nearest}
+use Rattle.walk.specs.declared.tally.Met.{Met}
 use Rattle.walk.specs.declared.tally.Tally.{Tally}
+use Rattle.lent.specs.declared.refusal.Refused.{Refused}
 use Rattle.walk.specs.declared.turn.Turn.{Turn}
 use Rattle.walk.specs.declared.turn.Turn.TheVariants.{Missed, Down, Open}
 use Rattle.tree.specs.declared.Node.{Node}
@@ -69,14 +71,14 @@ module _ (r : Ray) (R : T (admitted_ray r)) where
       (rw (is_false (passes r b) n, U.0, W.0), rw (U.1, W.1))
 
 -- ---- what a part of the walk adds to the tally
-nearest_append : (s : Lent) (r : Ray) (best : Nearest) (ps qs : List ℕ) → nearest s r best (ps ++ qs) ≡ nearest s r (nearest s r best ps) qs
+nearest_append : (s : Lent) (r : Ray) (best : Option Met) (ps qs : List ℕ) → nearest s r best (ps ++ qs) ≡ nearest s r (nearest s r best ps) qs
 nearest_append s r best [] qs = refl
 nearest_append s r best (p ∷ ps) qs = nearest_append s r (after s.mesh.triangles r (get_or s.tree.index p 0) best) ps qs
 
 abbrev more : Lent → Ray → ℕ → List ℕ → Tally → Tally
 more s r m ps a = record { boxes = a.boxes + m; triangles = a.triangles + length ps; nearest = nearest s r a.nearest ps }
 
-tally : (b b' c c' : ℕ) (f f' : Nearest) → b ≡ b' → c ≡ c' → f ≡ f' → ◌≡◌ {A = Tally} (record { boxes = b; triangles = c; nearest = f }) (record { boxes = b'; triangles = c'; nearest = f' })
+tally : (b b' c c' : ℕ) (f f' : Option Met) → b ≡ b' → c ≡ c' → f ≡ f' → ◌≡◌ {A = Tally} (record { boxes = b; triangles = c; nearest = f }) (record { boxes = b'; triangles = c'; nearest = f' })
 tally b b' c c' f f' p q e i = record { boxes = p i; triangles = q i; nearest = e i }
 
 twice : (s : Lent) (r : Ray) (a : Tally) (m m' n : ℕ) (ps qs : List ℕ) → m + m' ≡ n → more s r m' qs (more s r m ps a) ≡ more s r n (ps ++ qs) a
@@ -84,23 +86,23 @@ twice s r a m m' n ps qs e =
     tally _ _ _ _ _ _ (omega arith) (omega (arith, length-append ps qs)) (sym (nearest_append s r a.nearest ps qs))
 
 module _ (s : Lent) (r : Ray) (entries : (p : ℕ) → p < length s.tree.index → get_or s.tree.index p 0 < triangle_count s.mesh.triangles) (fine : (k : ℕ) → k < triangle_count s.mesh.triangles → T (admitted_triangle (triangle_at s.mesh.triangles k))) where
-  scan_all : (c p : ℕ) (a : Tally) → p + c ≤ length s.tree.index → scan s.mesh.triangles s.tree.index r c p a ≡ Down (more s r 0 (range_of c p) a)
+  scan_all : (c p : ℕ) (a : Tally) → p + c ≤ length s.tree.index → scan s.mesh.triangles s.tree.index r c p a ≡ Ok (Down (more s r 0 (range_of c p) a))
   unfolding scan tested
-  scan_all zero p a h = ap Down (tally _ _ _ _ _ _ (omega arith) (omega arith) refl)
+  scan_all zero p a h = ap (λ (b : Tally). Ok (Down b)) (tally _ _ _ _ _ _ (omega arith) (omega arith) refl)
   scan_all (suc c) p a h =
       let k = get_or s.tree.index p 0 in
       let e = entries p (omega arith) in
       rw (lt-leb (triangle_count s.mesh.triangles) k e, is_true (admitted_triangle (triangle_at s.mesh.triangles k)) (fine k e))
-      (scan_all c (suc p) (tested s.mesh.triangles r k a) (omega arith) ∙ ap Down (tally _ _ _ _ _ _ refl (omega arith) refl))
+      (scan_all c (suc p) (tested s.mesh.triangles r k a) (omega arith) ∙ ap (λ (b : Tally). Ok (Down b)) (tally _ _ _ _ _ _ refl (omega arith) refl))
 
   leaf_visit : (i besides : ℕ) (x : Node) (a : Tally) (b : Aabb) (p c : ℕ) → IsLeaf s.tree x b p c → T (usable b)
-      → judged s.mesh.triangles s.tree r i x besides a ≡ cond (passes r b) (Down (more s r 0 (range_of c p) a)) Missed
+      → judged s.mesh.triangles s.tree r i x besides a ≡ cond (passes r b) (Ok (Down (more s r 0 (range_of c p) a))) (Ok Missed)
   unfolding judged sound opened open_leaf
   leaf_visit i besides x a b p c H B =
       rw (H.bounds, H.first, H.count, H.kind, is_true (usable b) B, le-ltb (length s.tree.index) (p + c) H.inside)
       (go (passes r b))
     where
-      go : (q : Bool) → cond q (scan s.mesh.triangles s.tree.index r c p a) Missed ≡ cond q (Down (more s r 0 (range_of c p) a)) Missed
+      go : (q : Bool) → cond q (scan s.mesh.triangles s.tree.index r c p a) (Ok Missed) ≡ cond q (Ok (Down (more s r 0 (range_of c p) a))) (Ok Missed)
       go true = scan_all c p a H.inside
       go false = refl
 
@@ -109,7 +111,7 @@ module _ (s : Lent) (r : Ray) (entries : (p : ℕ) → p < length s.tree.index �
   sound_internal i x b H B = rw (H.bounds, is_true (usable b) B, H.kind, H.count)
 
   internal_visit : (i besides : ℕ) (x : Node) (a : Tally) (b : Aabb) → IsInternal s.tree i x b → T (usable b) → besides + 2 ≤ most_pending
-      → judged s.mesh.triangles s.tree r i x besides a ≡ cond (passes r b) (Open (left_of i x) (right_of i x)) Missed
+      → judged s.mesh.triangles s.tree r i x besides a ≡ cond (passes r b) (Ok (Open (left_of i x) (right_of i x))) (Ok Missed)
   unfolding judged opened
   internal_visit i besides x a b H B k =
       rw (sound_internal i x b H B, ap (passes r) H.bounds, ne_eqb x.kind 1 (λ e. omega (arith, H.kind)), ← both_put (node_count s.tree.links) i x besides (left_of i x) (right_of i x) refl refl H.right_there k)
@@ -124,10 +126,10 @@ module _ (s : Lent) (r : Ray) (entries : (p : ℕ) → p < length s.tree.index �
     unfolding visit boxed
     leaf_walks b p c i rest left later a H N d e =
         one_left s r left later i rest a (omega arith)
-        ∙ ap (λ (t : Turn). onward t rest (boxed a) (run s r later)) (leaf_visit i (length rest) (node_of s.tree i) (boxed a) b p c H N)
+        ∙ ap (λ (t : Result Turn Refused). onward t rest (boxed a) (run s r later)) (leaf_visit i (length rest) (node_of s.tree i) (boxed a) b p c H N)
         ∙ go (passes r b)
       where
-        go : (q : Bool) → onward (cond q (Down (more s r 0 (range_of c p) (boxed a))) Missed) rest (boxed a) (run s r later) ≡ run s r later rest (more s r 1 (cond q (range_of c p) []) a)
+        go : (q : Bool) → onward (cond q (Ok (Down (more s r 0 (range_of c p) (boxed a)))) (Ok Missed)) rest (boxed a) (run s r later) ≡ run s r later rest (more s r 1 (cond q (range_of c p) []) a)
         go true = ap (run s r later rest) (tally _ _ _ _ _ _ (omega arith) refl refl)
         go false = ap (run s r later rest) (tally _ _ _ _ _ _ refl (omega arith) refl)
 
@@ -136,7 +138,7 @@ module _ (s : Lent) (r : Ray) (entries : (p : ℕ) → p < length s.tree.index �
       abbrev Walked : Type 0
       Walked = run s r left (i ∷ rest) a ≡ run s r later rest (more s r (1 + 2 * entered r (internal b u v)) (reached r (internal b u v)) a)
 
-      visited : (q : Bool) → passes r b ≡ q → visit s.mesh.triangles s.tree r i (length rest) (boxed a) ≡ cond q (Open (left_of i (node_of s.tree i)) (right_of i (node_of s.tree i))) Missed
+      visited : (q : Bool) → passes r b ≡ q → visit s.mesh.triangles s.tree r i (length rest) (boxed a) ≡ cond q (Ok (Open (left_of i (node_of s.tree i)) (right_of i (node_of s.tree i)))) (Ok Missed)
       unfolding visit
       visited q t = rw (← t) (internal_visit i (length rest) (node_of s.tree i) (boxed a) b H.0 N.0 (omega arith))
 
@@ -149,7 +151,7 @@ module _ (s : Lent) (r : Ray) (entries : (p : ℕ) → p < length s.tree.index �
           let f : more s r n (reached r u ++ reached r v) (boxed a) ≡ more s r (1 + 2 * entered r (internal b u v)) (reached r u ++ reached r v) a = rw t (tally _ _ _ _ _ _ (omega arith) refl refl) in
           let later' = 1 + 2 * entered r u + (1 + 2 * entered r v + later) in
           one_left s r left later' i rest a (omega (arith, rw t at e))
-          ∙ ap (λ (x : Turn). onward x rest (boxed a) (run s r later')) (visited true t)
+          ∙ ap (λ (x : Result Turn Refused). onward x rest (boxed a) (run s r later')) (visited true t)
           ∙ U j (k ∷ rest) _ (1 + 2 * entered r v + later) (boxed a) H.1 N.3 (omega arith) refl
           ∙ W k rest _ later _ H.2 N.4 (omega arith) refl
           ∙ ap (run s r later rest)
@@ -160,7 +162,7 @@ module _ (s : Lent) (r : Ray) (entries : (p : ℕ) → p < length s.tree.index �
       internal_out t =
           let D = dropped r R (internal b u v) N (rw t tt) in
           one_left s r left later i rest a (omega (arith, D.0))
-          ∙ ap (λ (x : Turn). onward x rest (boxed a) (run s r later)) (visited false t)
+          ∙ ap (λ (x : Result Turn Refused). onward x rest (boxed a) (run s r later)) (visited false t)
           ∙ rw (D.0, D.1) (ap (run s r later rest) (tally _ _ _ _ _ _ refl (omega arith) refl))
 
       internal_case : (q : Bool) → passes r b ≡ q → Walks u → Walks v → Walked

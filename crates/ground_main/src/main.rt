@@ -3,17 +3,24 @@
 #![tactic(auto)]
 
 use aabb::{Aabb, Ray, Span, Vec3};
-use triangle::{Found, Triangle};
+use triangle::Triangle;
+
+// Zeros, the least subnormal, -1, the greatest number, the infinities and a NaN, by their bits.
+const PATTERNS: [u64; 8] = [
+    0x0000_0000_0000_0000,
+    0x8000_0000_0000_0000,
+    0x0000_0000_0000_0001,
+    0xbff0_0000_0000_0000,
+    0x7fef_ffff_ffff_ffff,
+    0x7ff0_0000_0000_0000,
+    0xfff0_0000_0000_0000,
+    0x7ff4_0000_0000_0000,
+];
 
 fn main() {
-    orders(0x0000_0000_0000_0000);
-    orders(0x8000_0000_0000_0000);
-    orders(0x0000_0000_0000_0001);
-    orders(0xbff0_0000_0000_0000);
-    orders(0x7fef_ffff_ffff_ffff);
-    orders(0x7ff0_0000_0000_0000);
-    orders(0xfff0_0000_0000_0000);
-    orders(0x7ff4_0000_0000_0000);
+    for pattern in PATTERNS {
+        orders(pattern);
+    }
     boxes();
     slabs();
     triangles();
@@ -40,11 +47,7 @@ fn number(x: f64) {
 }
 
 fn flag(yes: bool) {
-    if yes {
-        io::write_all(1, b" yes");
-    } else {
-        io::write_all(1, b" no");
-    }
+    io::write_all(1, if yes { b" yes" } else { b" no" });
 }
 
 fn vector(v: Vec3) {
@@ -65,14 +68,19 @@ fn orders(pattern: u64) {
     number(x);
     number(float::magnitude(x));
     end();
-    pair(x, 0.0);
-    pair(x, -0.0);
-    pair(x, 5e-324);
-    pair(x, -1.0);
-    pair(x, 1.7976931348623157e308);
-    pair(x, float::infinity());
-    pair(x, -float::infinity());
-    pair(x, float::from_bits(0x7ff8_0000_0000_0000));
+    let others = [
+        0.0,
+        -0.0,
+        5e-324,
+        -1.0,
+        1.7976931348623157e308,
+        f64::INFINITY,
+        -f64::INFINITY,
+        f64::NAN,
+    ];
+    for y in others {
+        pair(x, y);
+    }
 }
 
 fn pair(x: f64, y: f64) {
@@ -104,7 +112,7 @@ fn show_box(b: Aabb) {
 }
 
 fn boxes() {
-    let nan = float::from_bits(0x7ff8_0000_0000_0000);
+    let nan = f64::NAN;
     let zero = point(0.0, -0.0, 0.0);
     let turned = point(-0.0, 0.0, nan);
     let high = point(1.0, 2.0, 1099511627776.0);
@@ -126,10 +134,10 @@ fn boxes() {
 fn slab(b: Aabb, ray: Ray) {
     io::write_all(1, b"slab");
     match b.intersect_ray(ray) {
-        Span::Missed => {
+        None => {
             io::write_all(1, b" missed");
         }
-        Span::Passed { enter, exit } => {
+        Some(Span { enter, exit }) => {
             number(enter);
             number(exit);
         }
@@ -139,8 +147,8 @@ fn slab(b: Aabb, ray: Ray) {
 }
 
 fn slabs() {
-    let nan = float::from_bits(0x7ff8_0000_0000_0000);
-    let inf = float::infinity();
+    let nan = f64::NAN;
+    let inf = f64::INFINITY;
     let low = point(0.0, 0.0, 0.0);
     let high = point(1.0, 1.0, 1.0);
     let unit = bounds(low, high);
@@ -173,10 +181,10 @@ fn meet(a: Triangle, ray: Ray, k: u32) {
     io::print_decimal(1, k as u64);
     flag(a.admitted());
     match a.intersect(ray, k, 70) {
-        Found::Nothing => {
+        None => {
             io::write_all(1, b" nothing");
         }
-        Found::At(hit) => {
+        Some(hit) => {
             number(hit.t);
             vector(hit.point);
             vector(hit.normal);
@@ -187,7 +195,7 @@ fn meet(a: Triangle, ray: Ray, k: u32) {
 }
 
 fn triangles() {
-    let nan = float::from_bits(0x7ff8_0000_0000_0000);
+    let nan = f64::NAN;
     let v0 = point(0.0, 0.0, 0.0);
     let v1 = point(1.0, 0.0, 0.0);
     let v2 = point(0.0, 1.0, 0.0);
@@ -275,7 +283,7 @@ fn reading() {
     vector(b.v0);
     vector(b.normal);
     end();
-    let c = Aabb::read(&numbers, 18446744073709551615);
+    let c = Aabb::read(&numbers, usize::MAX);
     io::write_all(1, b"read");
     vector(c.min);
     end();

@@ -3,7 +3,7 @@ use mathlib.Core.Path.{◌≡◌, refl, sym, ap, ◌∙◌}
 use mathlib.Core.Bool.{false, cond}
 use Prim.Native.Nat.{ℕ}
 use lib.Dec.{eqb}
-use Rattle.std.specs.Prelude.{Result, Ok, Err}
+use Rattle.std.specs.Prelude.{Result, Ok, Err, IfOk}
 use Rattle.lent.specs.Ladder.{Refusal, none, numbered}
 use Rattle.lent.specs.Refusals.{number, refusal, refusal_of}
 use Rattle.lent.specs.declared.refusal.Reason.{Reason}
@@ -72,6 +72,13 @@ answer_is (Ok x) (Ok y) e = refl
 answer_is (Ok x) (Err s) e = apart (number s.reason) s.at e
 answer_is (Err r) (Ok y) e = apart (number r.reason) r.at (sym e)
 answer_is (Err r) (Err s) e = ap Err (refused_is r s e)
+
+-- and one that answers a number which is known
+pub count_is : (a b : Result ℕ Refused) (k : ℕ) → refusal_of a ≡ refusal_of b → IfOk a (λ n. n ≡ k) → IfOk b (λ n. n ≡ k) → a ≡ b
+count_is (Ok x) (Ok y) k e p q = ap Ok (p ∙ sym q)
+count_is (Ok x) (Err s) k e p q = apart (number s.reason) s.at e
+count_is (Err r) (Ok y) k e p q = apart (number r.reason) r.at (sym e)
+count_is (Err r) (Err s) k e p q = ap Err (refused_is r s e)
 
 -- 19 is none of them: it says that a condition is broken
 pub no_condition : (r : Reason) → eqb (number r) 19 ≡ false
