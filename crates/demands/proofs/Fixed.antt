@@ -141,7 +141,7 @@ numbers_fixed = (fixed, fixed)
 
 -- how many triangles a mesh has, or why it is refused
 pub count_fixed : Fixes triangle_count.Post
-count_fixed = record { same = λ κs x r r' e e' p q. count_is r r' _ (p.0 ∙ sym q.0) p.1 q.1 }
+count_fixed = record { same = λ κs x r r' e e' p q. count_is r r' _ (p.0 ∙ sym q.0) p.1.0 q.1.0 }
 
 pub mesh_count_fixed : Fixes mesh_count.Post
 mesh_count_fixed = record { same = λ κs x r r' e e' p q. count_is r r' _ (p.0 ∙ sym q.0) p.1 q.1 }
