@@ -7,8 +7,8 @@ use mathlib.Core.List.{List}
 use lib.Ieee.{Float}
 use Rattle.lent.specs.Fixed.{Fixes, FixesAll}
 use Rattle.lent.proofs.Fixed.{fixed}
-use Rattle.std.specs.Prelude.{Result, Ok, Err, IfOk}
-use Rattle.lent.specs.Refusals.{number, refusal_of}
+use Rattle.std.specs.Prelude.{Result}
+use Rattle.lent.specs.Refusals.{refusal_of}
 use Rattle.lent.specs.declared.refusal.Refused.{Refused as Why}
 use Rattle.lent.proofs.Refusals.{refused_is, answer_is, count_is}
 use Rattle.triangle.specs.Refilled.{Outcome as Refilling, outcome as refilling}

@@ -27,7 +27,7 @@ use Rattle.lent.specs.Ladder.{none, triangle_count}
 use Rattle.lent.specs.Members.{Every, Any, Member}
 use Rattle.lent.specs.Permutation.{Perm, occurs, occ, up_to}
 use Rattle.lent.proofs.Permutation.{occurs_same, occurs_cases, occ_append, occ_at, up_below}
-use Rattle.tree.specs.Lent.{Mesh, Lent, Lists, Labelled, mesh_of, lists_of}
+use Rattle.tree.specs.Lent.{Mesh, Lent, Lists, Labelled, mesh_of}
 use Rattle.tree.specs.Node.{node_of, left_of, right_of}
 use Rattle.tree.specs.Tree.{Tree, leaf, internal}
 use Rattle.tree.specs.Holds.{Holds, Nested, Finite, covering}

@@ -3,7 +3,7 @@ use mathlib.Core.Path.{◌≡◌, refl}
 use Prim.Native.Nat.{ℕ, zero, suc, ◌+◌, ◌≤◌, ◌<◌}
 use mathlib.Core.Bool.{true, false, ◌||◌}
 use mathlib.Core.List.{List, [], ◌∷◌}
-use borrow.Author.Tests.{le-ltb, lt-ltb, eq-eqb, ne_eqb}
+use borrow.Author.Tests.{le-ltb, lt-ltb, ne_eqb}
 use lib.Dec.{leb}
 use lib.ListN.{length}
 use Rattle.lent.specs.Limits.{most_pending}
@@ -11,8 +11,8 @@ use Rattle.aabb.specs.declared.vector.Ray.{Ray}
 use Rattle.aabb.specs.Slab.{passes}
 use Rattle.tree.specs.declared.Node.{Node}
 use Rattle.tree.specs.Lent.{Lists, node_count}
-use Rattle.tree.specs.Node.{left_or_first, node_of, sound, left_of, right_of}
-use Rattle.walk.specs.Steps.{Went, on, stop, and_then, entries, leaf_by, internal_by, step_by, steps}
+use Rattle.tree.specs.Node.{node_of, sound, left_of, right_of}
+use Rattle.walk.specs.Steps.{Went, on, stop, internal_by, step_by, steps}
 
 -- ---- the list of pending nodes
 module _ {A : Type 0} (tick : A → A) (entry : ℕ → A → Went A) (s : Lists) (r : Ray) where

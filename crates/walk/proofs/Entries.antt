@@ -28,7 +28,6 @@ pub record Judging (mesh : List Float) (index : List ℕ) (first count place : �
   pub same : verdict mesh index (first + count - place) place ≡ verdict mesh index count first
 
 module _ (mesh : List Float) (index : List ℕ) where
-
   none_judged : (left p : ℕ) → left ≡ 0 → verdict mesh index left p ≡ Ok tt
   unfolding verdict
   none_judged left p e = rw e
@@ -64,7 +63,6 @@ pub record Testing (mesh : List Float) (index : List ℕ) (r : Ray) (first count
   pub same : nearest_of mesh index r (first + count - place) place found ≡ nearest_of mesh index r count first best
 
 module _ (mesh : List Float) (index : List ℕ) (r : Ray) where
-
   none_tested : (left p : ℕ) (best : Option Met) → left ≡ 0 → nearest_of mesh index r left p best ≡ best
   unfolding nearest_of
   none_tested left p best e = rw e
