@@ -19,7 +19,7 @@ use Rattle.tree.specs.Lent.{Mesh, Lent, Labelled}
 use Rattle.walk.specs.Answer.{told as answered}
 use Rattle.walk.specs.Walk.{walk}
 use Rattle.sky.specs.declared.Place.{Place}
-use Rattle.sky.specs.Sky.{ray_count, place_of, place_for, told_of, told_for, times_of, times_for, place_at, Filling, filled, sky_checks, sky}
+use Rattle.sky.specs.Sky.{ray_count, place_of, place_for, told_of, told_for, times_of, times_for, place_at, Filling, filling, filled, sky_checks, sky}
 
 pub place_is : (s : Lent) (rays : List Float) (k : ℕ) (r : Ray) (a : Answer) (p : Place) → r ≡ ray_at rays k → answered a ≡ walk s r → p ≡ place_of (answered a) → p ≡ place_for s rays k
 unfolding place_for
@@ -80,6 +80,10 @@ module _ (s : Lent) (rays : List Float) where
       time p j l e = records_at (times_for s rays) 3 (λ i. refl) n (drop (n * 3) times) k p j nan h l e
 
   -- ---- the call
+  pub filled_is : (n : ℕ) (times times' : List Float) (told told' : List ℕ) → times' ≡ records (times_for s rays) n ++ drop (n * 3) times → told' ≡ records (told_for s rays) n ++ drop (n * 5) told → filling none times' told' ≡ filled s rays n times told
+  unfolding filled
+  filled_is n times times' told told' e f = rw (e, f)
+
   module _ (times : List Float) (told : List ℕ) where
     pub served_is : (x : Filling) → first_failed (sky_checks s.mesh rays times told) ≡ none → x ≡ filled s rays (ray_count rays) times told → x ≡ sky s rays times told
     unfolding sky answered_by

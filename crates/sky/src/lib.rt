@@ -105,7 +105,7 @@ fn fill(scene: &Lent, rays: &[f64], times: &mut [f64], told: &mut [u64])
 
 // What `sky` would answer for these, with nothing written: the refusals of the whole call, in this order: 1 triangles that are not in twelves;
 // 2 more than 65,536 of them; 18 not one material for each; 14 rays that are not in sixes; 13 times shorter than three a ray or told shorter than
-// five.
+// five. The first three are a walk's, too; each ladder stands whole, in its rule's order.
 #[tactic(auto, unfolding(crate::specs::Sky::sky_checks, lent::specs::Ladder::first_failed))]
 pub fn judge(mesh: &Mesh, rays: &[f64], times: &[f64], told: &[u64]) -> Result<(), Refused>
     ensures { refusal_of result ≡ first_failed (sky_checks mesh.now rays.now times.now told.now) }

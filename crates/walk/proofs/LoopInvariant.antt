@@ -1,6 +1,7 @@
 -- What stays true of the walk's loop: what is left of the walk gives the whole walk's answer. Assumes nothing.
 use mathlib.Core.Path.{◌≡◌, refl, sym, ap, ◌∙◌}
 use mathlib.Core.List.{List, [], ◌∷◌}
+use mathlib.Core.Logic.{◌⊎◌, inl, inr}
 use Prim.Native.Nat.{ℕ, suc, ◌+◌, ◌-◌, ◌*◌, ◌^◌, ◌≤◌, ◌<◌}
 use native.Mathlib.Omega.{arith}
 use lib.ListN.{length, get_or}
@@ -118,7 +119,7 @@ module _ {s : Lent} {r : Ray} {n : ℕ} {p : Pending} {a b : Tally} (C : Countin
     unchanged = record { tests = refl; most = omega arith }
 
     -- its box is missed
-    pub missed : t ≡ Ok Missed → (q : Pending) → q.len ≡ p.len - 1 → pending q ≡ besides p → Going s r n q b
+    missed : t ≡ Ok Missed → (q : Pending) → q.len ≡ p.len - 1 → pending q ≡ besides p → Going s r n q b
     missed g q l h = went q b (omega (arith, C.going.room)) (rw h (all_below C.going C.some).1) unchanged (rw h (rw g at next))
 
     module _ (bounds : Leaves (node_count s.tree.links) (p.len - 1) b.boxes (b.triangles + 2 ^ 32) t) where
@@ -127,10 +128,10 @@ module _ {s : Lent} {r : Ray} {n : ℕ} {p : Pending} {a b : Tally} (C : Countin
         counts : Counted b.boxes (b.triangles + 2 ^ 32) c
         counts = rw g at bounds
 
-        pub down_box : c.boxes ≡ a.boxes + 1
+        down_box : c.boxes ≡ a.boxes + 1
         down_box = counts.tests ∙ one_box
 
-        pub down : (q : Pending) → q.len ≡ p.len - 1 → pending q ≡ besides p → Going s r n q c
+        down : (q : Pending) → q.len ≡ p.len - 1 → pending q ≡ besides p → Going s r n q c
         down q l h = went q c (omega (arith, C.going.room)) (rw h (all_below C.going C.some).1) counts (rw h (rw g at next))
 
       -- its children take its place
@@ -145,3 +146,8 @@ module _ {s : Lent} {r : Ray} {n : ℕ} {p : Pending} {a b : Tally} (C : Countin
         opens q l h =
             let w = C.going.whole in
             went q b (omega (arith, open_room)) (rw h (omega (arith, opened.left_there), (omega (arith, opened.right_there), (all_below C.going C.some).1))) unchanged (rw h (rw g at next))
+
+      -- whether it was a leaf or a box that is missed, its node is dropped
+      pub dropped : (c : Tally) → (t ≡ Ok (Down c)) ⊎ ((t ≡ Ok Missed) × (c ≡ b)) → (c.boxes ≡ a.boxes + 1) × ((q : Pending) → q.len ≡ p.len - 1 → pending q ≡ besides p → Going s r n q c)
+      dropped c (inl g) = (down_box g, down g)
+      dropped c (inr g) = rw g.1 (one_box, missed g.0)

@@ -1,5 +1,5 @@
 // A leaf's triangles, in two passes: first whatever refuses an entry, 10 or 5, then every test. A refusal discards what the tests found, so
-// the answers are those of one pass.
+// the answers are those of one pass. Each function takes the two lists that it needs, and not the scene: its contract names no more.
 ghost use Rattle.std.specs.Prelude.{◌≡◌, ◌+◌, ◌<◌, ◌≤◌, ◌^◌, length};
 ghost use Rattle.walk.specs.inner.Turns.{scan, open_leaf};
 ghost use Rattle.walk.specs.inner.State.{verdict, nearest_of};

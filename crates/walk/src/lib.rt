@@ -89,23 +89,19 @@ fn run(scene: &Lent, ray: Ray) -> Result<Answer, Refused>
         }
         a = a.boxed();
         match step::visit(scene, aim, i, besides, a)? {
-            Turn::Down(next) => {
-                a = next;
-                pending = pending.dropped();
-                if 0 < besides {
-                    last = pending.nodes[besides - 1];
-                }
-            }
-            Turn::Missed => {
-                pending = pending.dropped();
-                if 0 < besides {
-                    last = pending.nodes[besides - 1];
-                }
-            }
             Turn::Open { left, right } => {
                 pending = pending.opened(left, right);
                 last = left;
+                continue;
             }
+            Turn::Down(next) => {
+                a = next;
+            }
+            Turn::Missed => {}
+        }
+        pending = pending.dropped();
+        if 0 < besides {
+            last = pending.nodes[besides - 1];
         }
     }
     Ok(over(mesh, ray, a))

@@ -3,7 +3,7 @@ ghost use Rattle.std.specs.Prelude.{◌≡◌, [], ◌∷◌, ◌+◌, ◌-◌, 
 ghost use Rattle.lent.specs.Limits.{most_pending};
 ghost use Rattle.walk.specs.inner.State.{pending, besides};
 
-// The first `len` of the numbers are pending; the last of them is taken next.
+// The first `len` of the numbers are pending; the last of them is taken next. An array and a length, by value: the form that the customer asks for.
 #[derive(Clone, Copy)]
 pub struct Pending {
     pub nodes: [u32; 64],
@@ -16,7 +16,7 @@ impl Pending {
         ensures { (result.len ≡ 1) × (pending result ≡ 0 ∷ []) × (length result.nodes ≡ most_pending) }
     {
         Pending {
-            nodes: [0u32; 64],
+            nodes: [0; 64],
             len: 1,
         }
     }
@@ -26,10 +26,9 @@ impl Pending {
         requires { 0 < self.len }
         ensures { (result.len ≡ self.len - 1) × (result.nodes ≡ self.nodes) }
     {
-        let nodes = self.nodes;
         Pending {
-            nodes,
             len: self.len - 1,
+            ..self
         }
     }
 

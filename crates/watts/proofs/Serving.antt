@@ -53,6 +53,10 @@ module _ (s : Lent) (rays : List Float) (weights : List ℕ) (times : List Float
       further first own
       ∙ (λ i. answered (sym (p ∙ ap (λ (m : Mesh). first_failed (sky_checks m rays times told)) e) i) numbered (sym q i))
 
+  pub watts_refused : (number at : ℕ) → first_failed (watts_checks s rays weights times told) ≡ numbered number at → outcome (Refused number at) times told ≡ watts s rays weights times told
+  unfolding watts answered
+  watts_refused number at p = ends (judged (numbered number at) (sym p) refl)
+
   abbrev times_left : List Float
   times_left = (filled s rays (ray_count rays) times told).times
 
