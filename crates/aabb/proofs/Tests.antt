@@ -55,12 +55,10 @@ abbrev pub Negative : Vec3 → Bool
 Negative d = lt d.x nought || (lt d.y nought || lt d.z nought)
 
 -- ---- numbers of a lent slice
-nan_is : div binary64 (of_bits binary64 0) (of_bits binary64 0) ≡ nan
-unfolding div of_bits
-nan_is = refl
 
-pub beyond_end : (l : List Float) (k : ℕ) → length l ≤ k → div binary64 (of_bits binary64 0) (of_bits binary64 0) ≡ number_at l k
-beyond_end l k h = nan_is ∙ sym (get_or-eq_default l nan h)
+pub beyond_end : (l : List Float) (k : ℕ) → length l ≤ k → of_bits binary64 0x7ff8_0000_0000_0000 ≡ number_at l k
+unfolding of_bits
+beyond_end l k h = sym (get_or-eq_default l nan h)
 
 -- three places from `at` on that all lie beyond the end
 pub beyond_three : (l : List Float) (at : ℕ) (x : Float) → x ≡ number_at l (length l) → length l ≤ at → vec x x x ≡ vector_at l at

@@ -76,8 +76,8 @@ impl Aim {
         self.z
     }
 
-    // Enter and exit times of the prepared ray through the box, from 0 on, or none where it misses it. The loop over the axes is left at the first that rules it
-    // out. Enter and exit are never a NaN, so one comparison picks the greater and the lesser.
+    // Enter and exit times of the prepared ray through the box, from 0 on, or none where it misses it. Enter and exit are never a NaN, so one comparison
+    // picks the greater and the lesser. A loop over the axes that is left by break is the form that document 01 names for this place.
     pub fn through(self, bounds: Aabb) -> Option<Span>
         ensures { result ≡ through self bounds }
     {

@@ -201,10 +201,7 @@ fn limited(x: f64, limit: f64) -> bool
 fn number(numbers: &[f64], at: usize) -> f64
     ensures { result ≡ number_at numbers.now at }
 {
-    if at < numbers.len() {
-        return numbers[at];
-    }
-    0.0 / 0.0
+    if at < numbers.len() { numbers[at] } else { f64::NAN }
 }
 
 // Where record i of a lent slice starts, `width` numbers each, or the slice's end where it would start beyond it.

@@ -230,12 +230,12 @@ fn refusals() {
 }
 
 fn bad_numbers() {
-    let nan = 0.0 / 0.0;
+    let nan = f64::NAN;
     let mut mesh = [0.0; 60];
     row(&mut mesh, 5, 16.0, 3.0);
     mesh[43] = nan;
     in_six(b"a NaN in triangle 3", &mesh);
-    mesh[14] = 1.0 / 0.0;
+    mesh[14] = f64::INFINITY;
     in_six(b"and infinity in triangle 1", &mesh);
     mesh[11] = -2.0000000000000004;
     in_six(b"and a normal over 2 in triangle 0", &mesh);

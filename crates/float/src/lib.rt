@@ -54,6 +54,7 @@ pub fn greater(run: f64, x: f64) -> f64
     if run < x || run.is_nan() { x } else { run }
 }
 
+// (Lesser and greater are twins of one line each: a function over the comparison would be no plainer. So are the next two.)
 // Beside a running number that is no NaN, the lesser by one comparison (proofs/Pick.antt: `lower_is`); a running NaN is kept.
 pub fn lower(run: f64, x: f64) -> f64
     ensures { result ≡ lower run x }

@@ -1,10 +1,35 @@
-// The five kinds of cases: 1 a build, 2 a walk, 3 a slab test, 4 a triangle test, 5 a sky of rays. What the lent rooms hold before a call is that of
+// The five kinds of cases. What the lent rooms hold before a call is that of
 // room.rt, but for a sky, where the file has it.
 use crate::compare::{same, same_bits, same_numbers};
 use crate::input::{Fault, Stored, fill};
 use crate::room;
 use crate::score::Score;
 use std::io::Read;
+
+// What is asked of a case.
+#[derive(Clone, Copy, PartialEq, Eq)]
+enum Kind {
+    Build = 1,
+    Walk = 2,
+    Slab = 3,
+    Triangle = 4,
+    Sky = 5,
+}
+
+impl TryFrom<u8> for Kind {
+    type Error = Fault;
+
+    fn try_from(kind: u8) -> Result<Kind, Fault> {
+        match kind {
+            1 => Ok(Kind::Build),
+            2 => Ok(Kind::Walk),
+            3 => Ok(Kind::Slab),
+            4 => Ok(Kind::Triangle),
+            5 => Ok(Kind::Sky),
+            _ => Err(Fault::Unknown),
+        }
+    }
+}
 
 // What a walk and a sky are lent: a mesh and a tree over it.
 #[derive(Drop)]
@@ -18,12 +43,10 @@ struct Lent<'a> {
 
 // The case that the file has next, its kind first.
 pub fn next<R: Read>(file: &mut R, score: Score) -> Result<Score, Fault> {
-    let kind = u8::read(file)?;
-    match kind {
-        1 | 2 | 5 => lists(file, kind, score),
-        3 => Ok(score.with(slab(file)?)),
-        4 => Ok(score.with(triangle(file)?)),
-        _ => Err(Fault::Unknown),
+    match Kind::try_from(u8::read(file)?)? {
+        Kind::Slab => Ok(score.with(slab(file)?)),
+        Kind::Triangle => Ok(score.with(triangle(file)?)),
+        kind => lists(file, kind, score),
     }
 }
 
@@ -51,7 +74,7 @@ fn triangle<R: Read>(file: &mut R) -> Result<bool, Fault> {
 
 // A build, a walk or a sky: the lengths of the four lists (triangles, index, boxes, links), then the case in as much room. The triangles come first in each;
 // in a walk and a sky the materials and the tree come next.
-fn lists<R: Read>(file: &mut R, kind: u8, score: Score) -> Result<Score, Fault> {
+fn lists<R: Read>(file: &mut R, kind: Kind, score: Score) -> Result<Score, Fault> {
     let mut lengths = [0; 4];
     fill(file, &mut lengths)?;
     let mut triangles = [0.0; 1024];
@@ -63,7 +86,7 @@ fn lists<R: Read>(file: &mut R, kind: u8, score: Score) -> Result<Score, Fault> 
     let boxes = room::cut(&mut boxes, lengths[2])?;
     let links = room::cut(&mut links, lengths[3])?;
     fill(file, triangles)?;
-    if kind == 1 {
+    if kind == Kind::Build {
         return Ok(score.with(build(file, triangles, index, boxes, links)?));
     }
     let mut materials = [0; 128];
@@ -79,7 +102,7 @@ fn lists<R: Read>(file: &mut R, kind: u8, score: Score) -> Result<Score, Fault> 
         boxes,
         links,
     };
-    if kind == 5 {
+    if kind == Kind::Sky {
         return Ok(score.with(sky(file, &lent)?));
     }
     walk(file, &lent, score)

@@ -14,6 +14,7 @@ pub struct Node {
     pub bounds: Aabb,
     pub left_or_first: u32,
     pub count: u32,
+    // 1 of a leaf, 0 of an internal node; a number, not an enum, since a caller lends it and it may be any.
     pub kind: u32,
 }
 
@@ -21,10 +22,7 @@ pub struct Node {
 pub fn word(words: &[u32], at: usize) -> u32
     ensures { result ≡ get_or words.now at 0 }
 {
-    if at < words.len() {
-        return words[at];
-    }
-    0
+    if at < words.len() { words[at] } else { 0 }
 }
 
 // Node i with the box given, where not all of its links are there.

@@ -158,7 +158,7 @@ fn probes() {
     one(b"direction over 2", ray(0.25, 0.25, 1.0, 0.0, 0.0, -2.5));
     one(
         b"direction infinite",
-        ray(0.25, 0.25, 1.0, 0.0, 0.0, -float::infinity()),
+        ray(0.25, 0.25, 1.0, 0.0, 0.0, -f64::INFINITY),
     );
 }
 
@@ -214,7 +214,7 @@ fn cut(
 
 fn entrances() {
     let r = down(0.25, 0.25, 1.0);
-    let bad = down(0.25, 0.25, float::infinity());
+    let bad = down(0.25, 0.25, f64::INFINITY);
     cut(b"11 numbers of triangles", 11, 1, 1, 6, 3, r);
     cut(b"1 before 7", 11, 1, 1, 6, 3, bad);
     cut(b"no triangles", 0, 0, 1, 6, 3, r);
@@ -249,8 +249,8 @@ fn nodes() {
     root(b"box at 2^40", 0.0, 1099511627776.0, 0, 1, 1);
     root(
         b"box infinite",
-        -float::infinity(),
-        float::infinity(),
+        -f64::INFINITY,
+        f64::INFINITY,
         0,
         1,
         1,
@@ -265,7 +265,7 @@ fn nodes() {
 
 // The tree of no triangles (rule C3).
 fn vacant(label: &[u8], r: Ray) {
-    let i = float::infinity();
+    let i = f64::INFINITY;
     let boxes = [i, i, i, -i, -i, -i];
     show(
         label,
