@@ -19,7 +19,7 @@ ghost use Rattle.builder.specs.Reply.{reply};
 ghost use Rattle.builder.specs.Build.{outcome, finished, built};
 
 use lent::{Reason, Refused};
-pub use start::room;
+pub use start::{clear_floats, room};
 
 // How many nodes and leaves a built tree has.
 #[derive(Clone, Copy, Debug, PartialEq, Eq)]

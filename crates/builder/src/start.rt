@@ -1,5 +1,6 @@
-// What is tested before a division, and what is written before it.
-ghost use Rattle.std.specs.Prelude.{◌≡◌, ◌≤◌, length};
+// What is tested before a division, what is written before it, and a list of numbers cleared.
+ghost use Rattle.std.specs.Prelude.{◌≡◌, ◌≤◌, length, replicate};
+ghost use Rattle.float.specs.Number.{nought};
 ghost use Rattle.lent.specs.Limits.{most_triangles};
 ghost use Rattle.lent.specs.Permutation.{up_to};
 ghost use Rattle.builder.specs.Build.{room};
@@ -21,4 +22,11 @@ pub fn count_up(index: &mut [u32])
     for (i, x) in index.iter_mut().enumerate() {
         *x = i as u32;
     }
+}
+
+// Zeros throughout.
+pub fn clear_floats(s: &mut [f64])
+    ensures { s.new ≡ replicate (length s.old) nought }
+{
+    s.fill(0.0);
 }

@@ -106,6 +106,7 @@ use Rattle.tree.proofs.word.Reads as tree_word
 use Rattle.triangle.proofs.refill_normals.Reads as triangle_refill_normals
 use Rattle.builder.proofs.build.Reads as builder_build
 use Rattle.builder.proofs.room.Reads as builder_room
+use Rattle.builder.proofs.clear_floats.Reads as builder_clear_floats
 use Rattle.walk.proofs.walk.Reads as walk_walk
 use Rattle.sky.proofs.judge.Reads as sky_judge
 use Rattle.sky.proofs.sky.Reads as sky_sky
@@ -168,9 +169,12 @@ build_same a b i j x y k l e = let t = build_told a b (ap (λ (o : Outcome). o.a
 pub build_fixed : FixesAll builder_build.Post {C = Result Built Why × List ℕ × List Float × List ℕ} (λ κs r e. (r, e.1.0.now, e.1.1.0.now, e.1.1.1.0.now))
 build_fixed κs x r r' e e' p q = build_same r r' _ _ _ _ _ _ (p ∙ sym q)
 
--- the builder's room
+-- the builder's room, and what it leaves of a list that it clears
 pub room_fixed : Fixes builder_room.Post
 room_fixed = fixed
+
+pub clear_fixed : FixesAll builder_clear_floats.Post {C = List Float} (λ κs r e. e.0.now)
+clear_fixed κs x r r' e e' p q = p ∙ sym q
 
 -- `walk` writes nothing lent, and what an answer tells fixes the answer
 told_fixes : (a a' : Answer) → told a ≡ told a' → a ≡ a'

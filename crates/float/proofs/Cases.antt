@@ -35,17 +35,6 @@ or_split true b t = inl tt
 or_split false b t = inr t
 
 -- ---- two tests in a row, as code makes them
-pub or_yes : (a b : Bool) → a ≡ true → true ≡ (a || b)
-or_yes a b p = rw p
-
-pub or_next : (a b t : Bool) → a ≡ false → t ≡ b → t ≡ (a || b)
-or_next a b t p q = rw p q
-
-pub and_go : (a b t : Bool) → a ≡ true → t ≡ b → t ≡ (a && b)
-and_go a b t p q = rw p q
-
-pub and_no : (a b : Bool) → a ≡ false → false ≡ (a && b)
-and_no a b p = rw p
 
 pub and_false : (a b : Bool) → false ≡ b → false ≡ (a && b)
 and_false true b p = p

@@ -6,3 +6,4 @@ mod Raising
 pub mod Sizes
 pub mod Topping
 mod LeafEntries
+mod AtPlacement
