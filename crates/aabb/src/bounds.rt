@@ -65,6 +65,7 @@ impl Aabb {
         Aabb { min, max }
     }
 
+    // (This pair and `grow` with `union` are twins of two lines: a function that is told which comparison to make would be no plainer.)
     // The box, widened to hold the point, by one comparison a number: as `grow` for every box that has grown from the empty one, which has no NaN; a NaN of
     // `self` is kept.
     #[tactic(auto, unfolding(crate::specs::Bounds::widened))]

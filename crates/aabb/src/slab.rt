@@ -63,6 +63,7 @@ impl Aim {
         Aim { ray, x, y, z }
     }
 
+    // As `Vec3::along`, of another type: the choice by axis that document 01 names, and two lines a type are no plainer as a trait.
     #[tactic(auto, unfolding(crate::specs::Slab::sight_on))]
     fn along(self, axis: usize) -> Sight
         ensures { result ≡ sight_on axis self }
@@ -114,14 +115,14 @@ impl Aim {
 fn first(t0: f64, t1: f64) -> f64
     ensures { result ≡ first t0 t1 }
 {
-    if t0 > t1 { t1 } else { t0 }
+    float::lower(t0, t1)
 }
 
 #[tactic(auto, unfolding(crate::specs::Slab::second))]
 fn second(t0: f64, t1: f64) -> f64
     ensures { result ≡ second t0 t1 }
 {
-    if t0 > t1 { t0 } else { t1 }
+    float::higher(t1, t0)
 }
 
 // What lies behind the ray is missed (rule B11).

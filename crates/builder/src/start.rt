@@ -24,7 +24,7 @@ pub fn count_up(index: &mut [u32])
     }
 }
 
-// Zeros throughout.
+// Zeros throughout: the slice's `fill`, kept as a call since docs/PROMISES.md names its theorem.
 pub fn clear_floats(s: &mut [f64])
     ensures { s.new ≡ replicate (length s.old) nought }
 {

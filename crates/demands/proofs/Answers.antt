@@ -6,10 +6,10 @@ use lib.Dec.{eqb}
 use native.Mathlib.Omega.{arith}
 use Rattle.std.specs.Prelude.{Result, Ok, Err}
 use Rattle.lent.specs.Ladder.{Refusal, none, numbered}
-use Rattle.lent.specs.Refusals.{number}
+use Rattle.lent.specs.Refusals.{number, refusal_of}
 use Rattle.lent.specs.declared.refusal.Refused.{Refused}
 use Rattle.lent.proofs.Ladder.{apart}
-use Rattle.lent.proofs.Refusals.{refused_is}
+use Rattle.lent.proofs.Refusals.{refused_is, answer_is}
 use Rattle.builder.specs.declared.Built.{Built}
 use Rattle.builder.specs.Reply.{Reply, reply}
 use Rattle.accept.specs.declared.rejection.Condition.{Condition}
@@ -21,6 +21,12 @@ use Rattle.watts.specs.declared.fraction.Terms.{Terms}
 use Rattle.watts.specs.declared.Report.{Report as Sheet}
 use Rattle.watts.specs.Watts.{Counted, Report, Refused as Unweighed, counted, watts_refusal}
 use Rattle.stl.specs.Answers.{Told, told}
+
+pub refill_told : (a b : Result (Unit {0}) Refused) → refusal_of a ≡ refusal_of b → a ≡ b
+refill_told a b e = answer_is a b e
+
+pub sky_told : (a b : Result (Unit {0}) Refused) → refusal_of a ≡ refusal_of b → a ≡ b
+sky_told a b e = answer_is a b e
 
 pub build_told : (a b : Result Built Refused) → reply a ≡ reply b → a ≡ b
 unfolding reply

@@ -10,7 +10,7 @@ use Rattle.lent.proofs.Fixed.{fixed}
 use Rattle.std.specs.Prelude.{Result}
 use Rattle.lent.specs.Refusals.{refusal_of}
 use Rattle.lent.specs.declared.refusal.Refused.{Refused as Why}
-use Rattle.lent.proofs.Refusals.{refused_is, answer_is, count_is}
+use Rattle.lent.proofs.Refusals.{refused_is, count_is}
 use Rattle.triangle.specs.Refilled.{Outcome as Refilling, outcome as refilling}
 use Rattle.builder.specs.declared.Built.{Built}
 use Rattle.builder.specs.Reply.{reply}
@@ -24,7 +24,7 @@ use Rattle.street.specs.Making.{Outcome as Making, outcome as making}
 use Rattle.watts.specs.declared.Report.{Report}
 use Rattle.watts.specs.Watts.{counted, Outcome as Weighing, outcome as weighing}
 use Rattle.stl.specs.Answers.{told as stl_told, Read, read_as, Written, written_as}
-use Rattle.demands.proofs.Answers.{build_told, accept_told, counted_told, stl_told_lem}
+use Rattle.demands.proofs.Answers.{refill_told, sky_told, build_told, accept_told, counted_told, stl_told_lem}
 use Rattle.float.proofs.infinity.Reads as float_infinity
 use Rattle.float.proofs.magnitude.Reads as float_magnitude
 use Rattle.float.proofs.lesser.Reads as float_lesser
@@ -95,6 +95,7 @@ use Rattle.triangle.proofs.admitted_at.Reads as triangle_admitted_at
 use Rattle.triangle.proofs.first_refused.Reads as triangle_first_refused
 use Rattle.triangle.proofs.count.Reads as triangle_count
 use Rattle.tree.proofs.lists.Mesh.count.Reads as mesh_count
+use Rattle.tree.proofs.lists.Lent.new.Reads as lent_new
 use Rattle.lent.proofs.refusal.Reason.number.Reads as reason_number
 use Rattle.accept.proofs.rejection.Condition.number.Reads as condition_number
 use Rattle.tree.proofs.Node.read.Reads as node_read
@@ -148,8 +149,8 @@ pub mesh_count_fixed : Fixes mesh_count.Post
 mesh_count_fixed = record { same = λ κs x r r' e e' p q. count_is r r' _ (p.0 ∙ sym q.0) p.1 q.1 }
 
 -- the calls of `tree`, but for `Mesh::count`
-pub tree_fixed : Fixes node_read.Post × Fixes node_sound.Post × Fixes node_left.Post × Fixes node_right.Post × Fixes tree_misfit.Post × Fixes tree_word.Post
-tree_fixed = (fixed, fixed, fixed, fixed, fixed, fixed)
+pub tree_fixed : Fixes node_read.Post × Fixes node_sound.Post × Fixes node_left.Post × Fixes node_right.Post × Fixes tree_misfit.Post × Fixes tree_word.Post × Fixes lent_new.Post
+tree_fixed = (fixed, fixed, fixed, fixed, fixed, fixed, fixed)
 
 -- a call that answers nothing, or why it is refused
 abbrev Done : Type 0
@@ -157,7 +158,7 @@ Done = Result (Unit {0}) Why
 
 -- the answer, and the mesh at the end
 refill_same : (a b : Done) (x y : List Float) → refilling (refusal_of a) x ≡ refilling (refusal_of b) y → ◌≡◌ {A = Done × List Float} (a, x) (b, y)
-refill_same a b x y e = let t = answer_is a b (ap (λ (o : Refilling). o.refusal) e) in λ z. (t z, (e z).mesh)
+refill_same a b x y e = let t = refill_told a b (ap (λ (o : Refilling). o.refusal) e) in λ z. (t z, (e z).mesh)
 
 pub refill_normals_fixed : FixesAll triangle_refill_normals.Post {C = Done × List Float} (λ κs r e. (r, e.0.now))
 refill_normals_fixed κs x r r' e e' p q = refill_same r r' _ _ (p ∙ sym q)
@@ -193,11 +194,11 @@ pub walk_fixed : Fixes walk_walk.Post
 walk_fixed = record { same = λ κs x r r' e e' p q. told_fixes r r' (p ∙ sym q) }
 
 pub judge_fixed : Fixes sky_judge.Post
-judge_fixed = record { same = λ κs x r r' e e' p q. answer_is r r' (p ∙ sym q) }
+judge_fixed = record { same = λ κs x r r' e e' p q. sky_told r r' (p ∙ sym q) }
 
 -- the answer, and the answer room at the end
 sky_same : (a b : Done) (x y : List Float) (k l : List ℕ) → filling (refusal_of a) x k ≡ filling (refusal_of b) y l → ◌≡◌ {A = Done × List Float × List ℕ} (a, x, k) (b, y, l)
-sky_same a b x y k l e = let t = answer_is a b (ap (λ (o : Filling). o.refusal) e) in λ z. (t z, (e z).times, (e z).told)
+sky_same a b x y k l e = let t = sky_told a b (ap (λ (o : Filling). o.refusal) e) in λ z. (t z, (e z).times, (e z).told)
 
 pub sky_fixed : FixesAll sky_sky.Post {C = Done × List Float × List ℕ} (λ κs r e. (r, e.1.1.0.now, e.1.1.1.0.now))
 sky_fixed κs x r r' e e' p q = sky_same r r' _ _ _ _ (p ∙ sym q)

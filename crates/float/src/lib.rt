@@ -38,6 +38,7 @@ pub fn magnitude(x: f64) -> f64
     x
 }
 
+// Lesser and greater, and lower and higher after them, are twins of one line: a function that is told the comparison would be no plainer.
 // The lesser of the running number and x (rule F4): a NaN gives way, and beside an equal number the running one stays.
 #[tactic(auto, unfolding(crate::specs::Pick::lesser))]
 pub fn lesser(run: f64, x: f64) -> f64
@@ -54,7 +55,6 @@ pub fn greater(run: f64, x: f64) -> f64
     if run < x || run.is_nan() { x } else { run }
 }
 
-// (Lesser and greater are twins of one line each: a function over the comparison would be no plainer. So are the next two.)
 // Beside a running number that is no NaN, the lesser by one comparison (proofs/Pick.antt: `lower_is`); a running NaN is kept.
 pub fn lower(run: f64, x: f64) -> f64
     ensures { result ≡ lower run x }

@@ -32,7 +32,7 @@ use aabb::{Aabb, Ray, Span, Vec3};
 use accept::Rejection;
 use builder::Built;
 use lent::Refused;
-use tree::{Lent, Lists, Mesh};
+use tree::{Lent, Lists};
 use triangle::{Hit, Triangle};
 use walk::Answer;
 use watts::Report;
@@ -223,35 +223,12 @@ fn tell_accept(answer: Result<(), Rejection>, told: &mut [u64; 2]) -> u32
         }
         Err(Rejection::Broken { condition, at }) => {
             *told = [condition.number() as u64, at as u64];
-            19
+            19 // a condition is broken
         }
         Err(Rejection::Refused(refused)) => {
             *told = [refused.at as u64, 0];
             refused.reason.number()
         }
-    }
-}
-
-// The mesh and the lists of a tree, as they are lent.
-fn lent_as<'a>(
-    triangles: &'a [f64],
-    materials: &'a [u32],
-    index: &'a [u32],
-    boxes: &'a [f64],
-    links: &'a [u32],
-) -> Lent<'a>
-    ensures { result ≡ lent triangles.now materials.now index.now boxes.now links.now }
-{
-    Lent {
-        mesh: Mesh {
-            triangles,
-            materials,
-        },
-        tree: Lists {
-            index,
-            boxes,
-            links,
-        },
     }
 }
 
@@ -286,7 +263,7 @@ pub fn pigeonmast_walk(
 ) -> u32
     ensures { walk result numbers.new told.new ≡ walked (scene.walk (lent triangles.now materials.now index.now boxes.now links.now) (ray_at ray.now 0)) numbers.old }
 {
-    let scene = lent_as(triangles, materials, index, boxes, links);
+    let scene = Lent::new(triangles, materials, index, boxes, links);
     let answer = walk::walk(&scene, Ray::read(ray, 0));
     tell_walk(answer, numbers, told)
 }
@@ -309,7 +286,7 @@ pub fn pigeonmast_sky(
 ) -> u32
     ensures { sky result at.new times.new told.new ≡ sky_report (filled (lent triangles.now materials.now index.now boxes.now links.now) rays.now times.old told.old) }
 {
-    let scene = lent_as(triangles, materials, index, boxes, links);
+    let scene = Lent::new(triangles, materials, index, boxes, links);
     let answer = sky::sky(&scene, rays, times, told);
     tell_done(answer, at)
 }
@@ -378,7 +355,7 @@ pub fn pigeonmast_watts(
 ) -> u32
     ensures { watts result report.new at.new times.new told.new ≡ watts_report (weighed (lent triangles.now materials.now index.now boxes.now links.now) rays.now weights.now times.old told.old) report.old }
 {
-    let scene = lent_as(triangles, materials, index, boxes, links);
+    let scene = Lent::new(triangles, materials, index, boxes, links);
     let answer = watts::watts(&scene, rays, weights, times, told);
     tell_watts(answer, report, at)
 }

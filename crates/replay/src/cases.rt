@@ -31,7 +31,7 @@ impl TryFrom<u8> for Kind {
     }
 }
 
-// What a walk and a sky are lent: a mesh and a tree over it.
+// What a walk and a sky are lent: a mesh and a tree over it. (Crate tree's `Lent` is not among what replay is built on, the exported calls alone.)
 #[derive(Drop)]
 struct Lent<'a> {
     triangles: &'a [f64],

@@ -10,7 +10,7 @@ pub struct Input {
     pub rays: usize,
 }
 
-// Four little-endian bytes.
+// Four little-endian bytes, as crate stl has them for its own format.
 #[tactic(auto, unfolding(crate::specs::Little::word))]
 pub fn word(s: &[u8], at: usize) -> u32
     requires { at + 4 ≤ length s.now }

@@ -15,7 +15,7 @@ ghost use Rattle.report.specs.Survey.{ray_lines, reported, surveyed};
 
 pub use input::{Input, measure};
 use lent::Refused;
-use tree::{Lent, Lists, Mesh};
+use tree::Lent;
 
 // The report of an input, as text at the front of `out`, and how many bytes of it there are; the rest of `out` stays. One line, `bad input`,
 // where the input is not what rule I2 says; one line where the build is refused; else the tree's counts and a line for each ray.
@@ -51,17 +51,13 @@ fn report(input: &[u8], triangles: &[f64], found: Input, out: &mut [u8]) -> usiz
             let shown = tree.nodes.min(399);
             let b = shown * 6;
             let l = shown * 3;
-            let scene = Lent {
-                mesh: Mesh {
-                    triangles,
-                    materials: &materials[0..n],
-                },
-                tree: Lists {
-                    index: &index[0..n],
-                    boxes: &boxes[0..b],
-                    links: &links[0..l],
-                },
-            };
+            let scene = Lent::new(
+                triangles,
+                &materials[0..n],
+                &index[0..n],
+                &boxes[0..b],
+                &links[0..l],
+            );
             put_rays(input, 8 + 96 * n, &scene, found.rays, out, at)
         }
     }

@@ -3,7 +3,7 @@
 ghost use Rattle.std.specs.Prelude.{◌≡◌, IfOk};
 ghost use Rattle.lent.specs.Ladder.{triangle_count, labelled_checks, first_failed};
 ghost use Rattle.lent.specs.Refusals.{refusal_of};
-ghost use Rattle.tree.specs.Lent.{Mesh as Faces, Lists as Nodes, Lent as Whole, mesh_of, lists_of};
+ghost use Rattle.tree.specs.Lent.{Mesh as Faces, Lists as Nodes, Lent as Whole, mesh_of, lists_of, lent};
 
 use lent::{Reason, Refused};
 use std::marker::Model;
@@ -45,6 +45,31 @@ impl<'a> Model for Lent<'a> {
     ghost Value = { Whole };
 
     ghost view = { λ s. record { mesh = s.mesh; tree = s.tree } };
+}
+
+impl<'a> Lent<'a> {
+    // The five lists as one.
+    pub fn new(
+        triangles: &'a [f64],
+        materials: &'a [u32],
+        index: &'a [u32],
+        boxes: &'a [f64],
+        links: &'a [u32],
+    ) -> Lent<'a>
+        ensures { result ≡ lent triangles.now materials.now index.now boxes.now links.now }
+    {
+        Lent {
+            mesh: Mesh {
+                triangles,
+                materials,
+            },
+            tree: Lists {
+                index,
+                boxes,
+                links,
+            },
+        }
+    }
 }
 
 impl<'a> Mesh<'a> {

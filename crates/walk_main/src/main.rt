@@ -6,7 +6,7 @@ ghost use Rattle.std.specs.Prelude.{◌≤◌};
 
 use aabb::{Ray, Vec3};
 use lent::Refused;
-use tree::{Lent, Lists, Mesh};
+use tree::Lent;
 use walk::Answer;
 
 fn main() {
@@ -104,26 +104,6 @@ fn nan() -> f64 {
     float::from_bits(0x7ff8_0000_0000_0000)
 }
 
-fn lent<'a>(
-    triangles: &'a [f64],
-    materials: &'a [u32],
-    index: &'a [u32],
-    boxes: &'a [f64],
-    links: &'a [u32],
-) -> Lent<'a> {
-    Lent {
-        mesh: Mesh {
-            triangles,
-            materials,
-        },
-        tree: Lists {
-            index,
-            boxes,
-            links,
-        },
-    }
-}
-
 // The triangle T of the probe table, its box, and a leaf of it alone.
 const PROBE: [f64; 12] = [0.0, 0.0, 0.0, 1.0, 0.0, 0.0, 0.0, 1.0, 0.0, 0.0, 0.0, 1.0];
 
@@ -140,7 +120,7 @@ fn upward(x: f64, z: f64, leg: f64) -> [f64; 12] {
 fn one(label: &[u8], r: Ray) {
     show(
         label,
-        walk::walk(&lent(&PROBE, &[70], &[0], &PROBE_BOX, &LEAF), r),
+        walk::walk(&Lent::new(&PROBE, &[70], &[0], &PROBE_BOX, &LEAF), r),
     );
 }
 
@@ -175,7 +155,7 @@ fn wide(label: &[u8], r: Ray) {
     show(
         label,
         walk::walk(
-            &lent(mesh.as_flattened(), &materials, &index, &boxes, &links),
+            &Lent::new(mesh.as_flattened(), &materials, &index, &boxes, &links),
             r,
         ),
     );
@@ -202,7 +182,7 @@ fn cut(
 )
     requires { (numbers ≤ 12) × (kinds ≤ 2) × (entries ≤ 1) × (bounds ≤ 6) × (words ≤ 3) }
 {
-    let scene = lent(
+    let scene = Lent::new(
         &PROBE[..numbers],
         &[70, 71][..kinds],
         &[0][..entries],
@@ -235,7 +215,7 @@ fn entrances() {
 fn root(label: &[u8], low: f64, high: f64, left_or_first: u32, amount: u32, kind: u32) {
     let boxes = [0.0, 0.0, low, 1.0, 1.0, high, 0.0, 0.0, 0.0, 1.0, 1.0, 0.0];
     let links = [left_or_first, amount, kind, 0, 1, 1];
-    let scene = lent(&PROBE, &[70], &[0], &boxes, &links);
+    let scene = Lent::new(&PROBE, &[70], &[0], &boxes, &links);
     show(label, walk::walk(&scene, down(0.25, 0.25, 1.0)));
 }
 
@@ -269,7 +249,7 @@ fn vacant(label: &[u8], r: Ray) {
     let boxes = [i, i, i, -i, -i, -i];
     show(
         label,
-        walk::walk(&lent(&[], &[], &[], &boxes, &[0, 0, 1]), r),
+        walk::walk(&Lent::new(&[], &[], &[], &boxes, &[0, 0, 1]), r),
     );
 }
 
@@ -277,7 +257,7 @@ fn vacant(label: &[u8], r: Ray) {
 fn leaf(label: &[u8], first: u32, amount: u32, entry: u32, other: u32) {
     let index = [entry, other];
     let links = [first, amount, 1];
-    let scene = lent(&PROBE, &[70], &index, &PROBE_BOX, &links);
+    let scene = Lent::new(&PROBE, &[70], &index, &PROBE_BOX, &links);
     show(label, walk::walk(&scene, down(0.25, 0.25, 1.0)));
 }
 
@@ -306,7 +286,7 @@ fn second(label: &[u8], v1_y: f64, v2_z: f64, normal_z: f64, entry: u32, other: 
     mesh[1][8] = v2_z;
     mesh[1][11] = normal_z;
     let index = [entry, other];
-    let scene = lent(
+    let scene = Lent::new(
         mesh.as_flattened(),
         &[70, 71],
         &index,
@@ -333,7 +313,7 @@ fn loop_of(label: &[u8], amount: usize)
 {
     let boxes = [0.0; 396];
     let links = [0; 198];
-    let scene = lent(
+    let scene = Lent::new(
         &PROBE,
         &[70],
         &[0],
@@ -358,7 +338,7 @@ fn loops() {
 fn shared(label: &[u8], left_or_first: u32, amount: u32, kind: u32) {
     let boxes = [PROBE_BOX; 3];
     let links = [1, 0, 0, 0, 1, 1, left_or_first, amount, kind];
-    let scene = lent(&PROBE, &[70], &[0], boxes.as_flattened(), &links);
+    let scene = Lent::new(&PROBE, &[70], &[0], boxes.as_flattened(), &links);
     show(label, walk::walk(&scene, down(0.25, 0.25, 1.0)));
 }
 
@@ -372,7 +352,7 @@ fn tie(label: &[u8], left: u32, right: u32) {
     let index = [left, right];
     let boxes = [[0.0, 0.0, 0.0, 1.0, 1.0, 0.5]; 3];
     let links = [1, 0, 0, 0, 1, 1, 1, 1, 1];
-    let scene = lent(
+    let scene = Lent::new(
         mesh.as_flattened(),
         &[70, 71, 72],
         &index,
@@ -416,7 +396,7 @@ fn sky(label: &[u8], kinds: usize, numbers: usize, timed: usize, words: usize)
     let mut times = [9.0; 12];
     let mut told = [9; 20];
     let materials = [70, 71];
-    let scene = lent(&PROBE, &materials[..kinds], &[0], &PROBE_BOX, &LEAF);
+    let scene = Lent::new(&PROBE, &materials[..kinds], &[0], &PROBE_BOX, &LEAF);
     io::write_all(1, label);
     match sky::sky(
         &scene,

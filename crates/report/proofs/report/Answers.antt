@@ -1,4 +1,5 @@
 -- The build's cases. Assumes nothing.
+use mathlib.Core.Path.{◌∙◌}
 use native.Mathlib.Omega.{arith}
 use Rattle.report.specs.Survey.{built_of}
 use Rattle.report.proofs.Writing.{and_then, wrote_as}
@@ -16,5 +17,5 @@ unfolding built_of
 returns-in-Ok c =
     let b = c.build in
     let p = c.put_built-at in
-    let w = handed_is _ _ _ _ _ _ _ _ c.requires.0 b.auto.boxes b.auto.links c.min-shown.ensures in
+    let w = c.new-scene.ensures ∙ handed_is _ _ _ _ _ _ _ _ c.requires.0 b.auto.boxes b.auto.links c.min-shown.ensures in
     wrote_as _ _ _ _ _ _ (built_report _ _ _ _ _ _ _ _ b.ensures _ _ c.in-Ok.is w) (and_then _ _ _ _ _ _ _ _ (omega (arith, p.ensures.1, c.requires)) p.ensures.0 c.put_rays.ensures)
