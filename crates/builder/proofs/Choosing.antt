@@ -9,6 +9,7 @@ use lib.ListN.{length, get_or, drop, replicate, length-drop}
 use lib.Seq.{drop-cons}
 use lib.Ieee.{Float, add, sub, mul, div, lt, le, of_int, of_bits, binary64}
 use borrow.Author.Tests.{eq-eqb, ne_eqb, le-leb, lt-leb}
+use Rattle.std.specs.Prelude.{None}
 use Rattle.float.specs.Number.{millionth, one, one_and_half, sixteen, trillionth}
 use Rattle.aabb.specs.Bounds.{area, extent}
 use Rattle.aabb.specs.Vector.{along, minus}
@@ -16,9 +17,8 @@ use Rattle.aabb.specs.declared.vector.Vec3.{Vec3}
 use Rattle.aabb.specs.declared.bounds.Aabb.{Aabb}
 use Rattle.builder.specs.declared.bins.Bin.{Bin}
 use Rattle.builder.specs.declared.split.Best.{Best}
-use Rattle.builder.specs.declared.split.SplitDecision.TheVariants.{MakeLeaf, Split}
 use Rattle.builder.specs.Bins.{blank, filled, join_bins, no_bin, suffix_of, whole}
-use Rattle.builder.specs.Choice.{best_of_axes, best_split, better_of, chosen, cost_of, leaf_cost, sweep_from, try_axis, weight}
+use Rattle.builder.specs.Choice.{best_of_axes, best_split, better_of, chosen, cost_of, leaf_cost, split_at, sweep_from, try_axis, weight}
 
 -- ---- the sweep
 module _ (axis : ℕ) (lo width parent : Float) where
@@ -100,12 +100,12 @@ module _ (m : List Float) (ids : List ℕ) (q : Aabb) (axis : ℕ) (parent : Flo
 
 -- ---- the choice
 module _ (m : List Float) (ids : List ℕ) (b q : Aabb) where
-  pub choose_few : length ids ≤ 4 → MakeLeaf ≡ best_split m ids b q
+  pub choose_few : length ids ≤ 4 → None ≡ best_split m ids b q
   unfolding best_split
   choose_few h = rw (le-leb (length ids) 4 h)
 
   module _ (parent : Float) (h : 4 < length ids) (e : parent ≡ area b) where
-    pub choose_flat : le parent trillionth ≡ true → MakeLeaf ≡ best_split m ids b q
+    pub choose_flat : le parent trillionth ≡ true → None ≡ best_split m ids b q
     unfolding best_split
     choose_flat t = rw (lt-leb (length ids) 4 h, ← e, t)
 
@@ -113,16 +113,16 @@ module _ (m : List Float) (ids : List ℕ) (b q : Aabb) where
     unfolding best_split leaf_cost
     choose_best z t p = rw (lt-leb (length ids) 4 h, ← e, t, ← p)
 
-pub chosen_split : (leaf : Float) (z : Best) → lt z.cost leaf ≡ true → Split z.axis z.position ≡ chosen leaf z
+pub chosen_split : (leaf : Float) (z : Best) → lt z.cost leaf ≡ true → split_at z.axis z.position ≡ chosen leaf z
 unfolding chosen
 chosen_split leaf z t = rw t
 
-pub chosen_leaf : (leaf : Float) (z : Best) → lt z.cost leaf ≡ false → MakeLeaf ≡ chosen leaf z
+pub chosen_leaf : (leaf : Float) (z : Best) → lt z.cost leaf ≡ false → None ≡ chosen leaf z
 unfolding chosen
 chosen_leaf leaf z t = rw t
 
 -- a split is of more than four
-pub splits_four : (m : List Float) (ids : List ℕ) (b q : Aabb) (a : ℕ) (p : Float) → best_split m ids b q ≡ Split a p → (length ids ≤ 4 → ⊥)
+pub splits_four : (m : List Float) (ids : List ℕ) (b q : Aabb) (a : ℕ) (p : Float) → best_split m ids b q ≡ split_at a p → (length ids ≤ 4 → ⊥)
 splits_four m ids b q a p e h = let r = choose_few m ids b q h in let w : ◌≡◌ {A = ℕ} 0 1 = cc in omega arith
 
 -- the cases of a boundary

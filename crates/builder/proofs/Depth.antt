@@ -9,14 +9,15 @@ use native.Mathlib.Omega.{arith}
 use lib.ListN.{length, take, drop, length-drop}
 use lib.Seq.{length-take-le}
 use lib.Ieee.{Float}
+use Rattle.std.specs.Prelude.{Option as Maybe, Some, None}
 use Rattle.lent.specs.Limits.{deepest}
 use Rattle.lent.specs.Ladder.{none as unrefused, numbered, first_failed, answered, unless, triangle_count}
 use Rattle.lent.specs.Permutation.{up_to}
 use Rattle.float.proofs.Cases.{low_or_high}
 use Rattle.aabb.specs.declared.bounds.Aabb.{Aabb}
 use Rattle.tree.specs.Tree.{depth, internal}
-use Rattle.builder.specs.declared.split.SplitDecision.{SplitDecision}
-use Rattle.builder.specs.declared.split.SplitDecision.TheVariants.{MakeLeaf, Split}
+use Rattle.builder.specs.declared.split.Split.{Split}
+use Rattle.builder.specs.Choice.{split_at}
 use Rattle.builder.specs.Fallback.{separated}
 use Rattle.builder.specs.Range.{node_box}
 use Rattle.builder.specs.Tree.{Grown, decision, grow, grown_as, joined, leaf_of}
@@ -61,10 +62,10 @@ module _ (m : List Float) where
   abbrev Same : ℕ → Type 0
   Same d = (f : ℕ) (ids : List ℕ) (g : Grown) → grow m d f ids ≡ some g → (e : ℕ) → depth g.tree ≤ e → grow m e f ids ≡ some g
 
-  same_leaf : (d f : ℕ) (ids : List ℕ) (g : Grown) → decision m ids ≡ MakeLeaf → grow m d f ids ≡ some g → (e : ℕ) → grow m e f ids ≡ some g
+  same_leaf : (d f : ℕ) (ids : List ℕ) (g : Grown) → decision m ids ≡ None → grow m d f ids ≡ some g → (e : ℕ) → grow m e f ids ≡ some g
   same_leaf d f ids g p w e = grow_leaf m e f ids p ∙ sym (grow_leaf m d f ids p) ∙ w
 
-  same_fork : (d f : ℕ) (ids : List ℕ) (g : Grown) (a : ℕ) (p : Float) → decision m ids ≡ Split a p → Same d → grow m (suc d) f ids ≡ some g → (e : ℕ) → depth g.tree ≤ e → grow m e f ids ≡ some g
+  same_fork : (d f : ℕ) (ids : List ℕ) (g : Grown) (a : ℕ) (p : Float) → decision m ids ≡ split_at a p → Same d → grow m (suc d) f ids ≡ some g → (e : ℕ) → depth g.tree ≤ e → grow m e f ids ≡ some g
   same_fork d f ids g a p q ih w e h =
       let s = separated m a p ids in
       let H = halves (node_box m ids) (grow m d f (take s.at s.ids)) (grow m d (f + s.at) (drop s.at s.ids)) g (sym (grow_fork m d f ids a p q) ∙ w) in
@@ -80,10 +81,10 @@ module _ (m : List Float) where
           (ih f (take s.at s.ids) H.left H.left_is e (omega arith)) (ih (f + s.at) (drop s.at s.ids) H.right H.right_is e (omega arith))
           ∙ ap some (sym H.whole_is)
 
-  same_by : (d f : ℕ) (ids : List ℕ) (g : Grown) (w : SplitDecision) → decision m ids ≡ w → ((x : ℕ) → d ≡ suc x → Same x) → grow m d f ids ≡ some g → (e : ℕ) → depth g.tree ≤ e → grow m e f ids ≡ some g
-  same_by d f ids g MakeLeaf p ih w e h = same_leaf d f ids g p w e
-  same_by zero f ids g (Split a p) q ih w e h = no_tree g (sym (grow_deep m f ids a p q) ∙ w)
-  same_by (suc d) f ids g (Split a p) q ih w e h = same_fork d f ids g a p q (ih d refl) w e h
+  same_by : (d f : ℕ) (ids : List ℕ) (g : Grown) (w : Maybe Split) → decision m ids ≡ w → ((x : ℕ) → d ≡ suc x → Same x) → grow m d f ids ≡ some g → (e : ℕ) → depth g.tree ≤ e → grow m e f ids ≡ some g
+  same_by d f ids g None p ih w e h = same_leaf d f ids g p w e
+  same_by zero f ids g (Some z) q ih w e h = no_tree g (sym (grow_deep m f ids z.axis z.position q) ∙ w)
+  same_by (suc d) f ids g (Some z) q ih w e h = same_fork d f ids g z.axis z.position q (ih d refl) w e h
 
   same : (d : ℕ) → Same d
   same zero f ids g w e h = same_by 0 f ids g (decision m ids) refl (λ x z. absurd (omega arith)) w e h
@@ -96,19 +97,19 @@ module _ (m : List Float) where
   abbrev Grows : ℕ → ℕ → List ℕ → Type 0
   Grows d f ids = (g : Grown) × (grow m d f ids ≡ some g)
 
-  grows_leaf : (d f : ℕ) (ids : List ℕ) → decision m ids ≡ MakeLeaf → Grows d f ids
+  grows_leaf : (d f : ℕ) (ids : List ℕ) → decision m ids ≡ None → Grows d f ids
   unfolding leaf_of
   grows_leaf d f ids p = (_, grow_leaf m d f ids p)
 
-  grows_by : (d f : ℕ) (ids : List ℕ) (w : SplitDecision) → decision m ids ≡ w → length ids ≤ d → ((x : ℕ) → d ≡ suc x → (g : ℕ) (xs : List ℕ) → length xs ≤ x → Grows x g xs) → Grows d f ids
-  grows_by d f ids MakeLeaf p h ih = grows_leaf d f ids p
-  grows_by zero f ids (Split a p) q h ih = absurd (omega (arith, decides_four m ids a p q))
-  grows_by (suc d) f ids (Split a p) q h ih =
-      let s = separated m a p ids in
-      let c = cut_of m ids a p q in
+  grows_by : (d f : ℕ) (ids : List ℕ) (w : Maybe Split) → decision m ids ≡ w → length ids ≤ d → ((x : ℕ) → d ≡ suc x → (g : ℕ) (xs : List ℕ) → length xs ≤ x → Grows x g xs) → Grows d f ids
+  grows_by d f ids None p h ih = grows_leaf d f ids p
+  grows_by zero f ids (Some z) q h ih = absurd (omega (arith, decides_four m ids z.axis z.position q))
+  grows_by (suc d) f ids (Some z) q h ih =
+      let s = separated m z.axis z.position ids in
+      let c = cut_of m ids z.axis z.position q in
       let u = ih d refl f (take s.at s.ids) (omega (arith, length-take-le s.at s.ids (omega (arith, c.high, c.len)), c.high)) in
       let v = ih d refl (f + s.at) (drop s.at s.ids) (omega (arith, length-drop s.at s.ids, c.len, c.low)) in
-      (_, grow_fork m d f ids a p q ∙ both (node_box m ids) u.0 v.0 (grow m d f (take s.at s.ids)) (grow m d (f + s.at) (drop s.at s.ids)) u.1 v.1)
+      (_, grow_fork m d f ids z.axis z.position q ∙ both (node_box m ids) u.0 v.0 (grow m d f (take s.at s.ids)) (grow m d (f + s.at) (drop s.at s.ids)) u.1 v.1)
 
   grows : (d f : ℕ) (ids : List ℕ) → length ids ≤ d → Grows d f ids
   grows zero f ids h = grows_by 0 f ids (decision m ids) refl h (λ x z. absurd (omega arith))

@@ -16,9 +16,8 @@ use Rattle.float.proofs.Cases.{neither}
 use Rattle.aabb.specs.declared.bounds.Aabb.{Aabb}
 use Rattle.triangle.specs.Mesh.{centroid_at}
 use Rattle.std.specs.Prelude.{Option as Maybe, Some, None}
-use Rattle.builder.specs.declared.split.SplitDecision.{SplitDecision}
-use Rattle.builder.specs.declared.split.SplitDecision.TheVariants.{MakeLeaf, Split}
-use Rattle.builder.specs.Choice.{best_split}
+use Rattle.builder.specs.declared.split.Split.{Split}
+use Rattle.builder.specs.Choice.{best_split, split_at}
 use Rattle.builder.specs.Fallback.{sorts_before, ordered, separated, settled}
 use Rattle.builder.specs.Layout.{Divided, Laid, box_put, boxes_of, link_put, links_of}
 use Rattle.builder.specs.Partition.{Parted, parted, parts}
@@ -88,25 +87,25 @@ split_between m a p ids h =
     (λ t. between (parted m a p ids).at (length ids) (parted_at m a p ids) (subst (λ (n : ℕ). (eqb (parted m a p ids).at 0 || eqb (parted m a p ids).at n) ≡ false) (parted_length m a p ids) t))
 
 -- ---- the tree, by what the choice is
-pub grow_leaf : (m : List Float) (d f : ℕ) (ids : List ℕ) → decision m ids ≡ MakeLeaf → grow m d f ids ≡ some (grown_as (leaf (node_box m ids) f (length ids)) ids)
+pub grow_leaf : (m : List Float) (d f : ℕ) (ids : List ℕ) → decision m ids ≡ None → grow m d f ids ≡ some (grown_as (leaf (node_box m ids) f (length ids)) ids)
 unfolding grow leaf_of
 grow_leaf m zero f ids p = rw (p, grow)
 grow_leaf m (suc d) f ids p = rw (p, grow)
 
-pub grow_deep : (m : List Float) (f : ℕ) (ids : List ℕ) (a : ℕ) (p : Float) → decision m ids ≡ Split a p → grow m 0 f ids ≡ none
+pub grow_deep : (m : List Float) (f : ℕ) (ids : List ℕ) (a : ℕ) (p : Float) → decision m ids ≡ split_at a p → grow m 0 f ids ≡ none
 unfolding grow
 grow_deep m f ids a p e = rw (e, grow)
 
-pub grow_fork : (m : List Float) (d f : ℕ) (ids : List ℕ) (a : ℕ) (p : Float) → decision m ids ≡ Split a p
+pub grow_fork : (m : List Float) (d f : ℕ) (ids : List ℕ) (a : ℕ) (p : Float) → decision m ids ≡ split_at a p
     → grow m (suc d) f ids ≡ joined (node_box m ids) (grow m d f (take (separated m a p ids).at (separated m a p ids).ids)) (grow m d (f + (separated m a p ids).at) (drop (separated m a p ids).at (separated m a p ids).ids))
 unfolding grow
 grow_fork m d f ids a p e = rw (e, grow)
 
 -- a split is of more than four
-pub splits_four : (m : List Float) (ids : List ℕ) (b q : Aabb) (a : ℕ) (p : Float) → best_split m ids b q ≡ Split a p → 4 < length ids
+pub splits_four : (m : List Float) (ids : List ℕ) (b q : Aabb) (a : ℕ) (p : Float) → best_split m ids b q ≡ split_at a p → 4 < length ids
 splits_four m ids b q a p e = let n : (length ids ≤ 4 → ⊥) = not_few m ids b q a p e in omega arith
 
-pub decides_four : (m : List Float) (ids : List ℕ) (a : ℕ) (p : Float) → decision m ids ≡ Split a p → 4 < length ids
+pub decides_four : (m : List Float) (ids : List ℕ) (a : ℕ) (p : Float) → decision m ids ≡ split_at a p → 4 < length ids
 unfolding decision
 decides_four m ids a p e = splits_four m ids (node_box m ids) (centroid_box m ids) a p e
 
@@ -121,26 +120,26 @@ small_joined b k n none r h h' p q = 0
 small_joined b k n (some l) none h h' p q = 0
 small_joined b k n (some l) (some r) h h' p q = omega arith
 
-leaf_small : (m : List Float) (d f : ℕ) (ids : List ℕ) → decision m ids ≡ MakeLeaf → Small (length ids) (grow m d f ids)
+leaf_small : (m : List Float) (d f : ℕ) (ids : List ℕ) → decision m ids ≡ None → Small (length ids) (grow m d f ids)
 unfolding Small
 leaf_small m d f ids e = rw (grow_leaf m d f ids e) (omega arith)
 
-deep_small : (m : List Float) (f : ℕ) (ids : List ℕ) (w : SplitDecision) → decision m ids ≡ w → Small (length ids) (grow m 0 f ids)
+deep_small : (m : List Float) (f : ℕ) (ids : List ℕ) (w : Maybe Split) → decision m ids ≡ w → Small (length ids) (grow m 0 f ids)
 unfolding Small
-deep_small m f ids MakeLeaf e = leaf_small m 0 f ids e
-deep_small m f ids (Split a p) e = rw (grow_deep m f ids a p e) 0
+deep_small m f ids None e = leaf_small m 0 f ids e
+deep_small m f ids (Some z) e = rw (grow_deep m f ids z.axis z.position e) 0
 
-fork_small : (m : List Float) (d f : ℕ) (ids : List ℕ) (w : SplitDecision) → decision m ids ≡ w
+fork_small : (m : List Float) (d f : ℕ) (ids : List ℕ) (w : Maybe Split) → decision m ids ≡ w
     → ((f : ℕ) (xs : List ℕ) → Small (length xs) (grow m d f xs)) → Small (length ids) (grow m (suc d) f ids)
-fork_small m d f ids MakeLeaf e ih = leaf_small m (suc d) f ids e
-fork_small m d f ids (Split a p) e ih =
-    let four : 4 < length ids = decides_four m ids a p e in
-    let mid : (0 < (separated m a p ids).at) × ((separated m a p ids).at < length ids) = split_between m a p ids (omega arith) in
-    let len : length (separated m a p ids).ids ≡ length ids = split_length m a p ids in
-    subst⁻¹ (λ (o : Option Grown). Small (length ids) o) (grow_fork m d f ids a p e)
-    (small_joined (node_box m ids) (separated m a p ids).at (length ids) _ _ mid.0 mid.1
-    (subst (λ (n : ℕ). Small n (grow m d f (take (separated m a p ids).at (separated m a p ids).ids))) (length-take-le (separated m a p ids).at (separated m a p ids).ids (omega arith)) (ih f (take (separated m a p ids).at (separated m a p ids).ids)))
-    (subst (λ (n : ℕ). Small n (grow m d (f + (separated m a p ids).at) (drop (separated m a p ids).at (separated m a p ids).ids))) (length-drop (separated m a p ids).at (separated m a p ids).ids ∙ ap (λ (n : ℕ). n - (separated m a p ids).at) len) (ih (f + (separated m a p ids).at) (drop (separated m a p ids).at (separated m a p ids).ids))))
+fork_small m d f ids None e ih = leaf_small m (suc d) f ids e
+fork_small m d f ids (Some z) e ih =
+    let four : 4 < length ids = decides_four m ids z.axis z.position e in
+    let mid : (0 < (separated m z.axis z.position ids).at) × ((separated m z.axis z.position ids).at < length ids) = split_between m z.axis z.position ids (omega arith) in
+    let len : length (separated m z.axis z.position ids).ids ≡ length ids = split_length m z.axis z.position ids in
+    subst⁻¹ (λ (o : Option Grown). Small (length ids) o) (grow_fork m d f ids z.axis z.position e)
+    (small_joined (node_box m ids) (separated m z.axis z.position ids).at (length ids) _ _ mid.0 mid.1
+    (subst (λ (n : ℕ). Small n (grow m d f (take (separated m z.axis z.position ids).at (separated m z.axis z.position ids).ids))) (length-take-le (separated m z.axis z.position ids).at (separated m z.axis z.position ids).ids (omega arith)) (ih f (take (separated m z.axis z.position ids).at (separated m z.axis z.position ids).ids)))
+    (subst (λ (n : ℕ). Small n (grow m d (f + (separated m z.axis z.position ids).at) (drop (separated m z.axis z.position ids).at (separated m z.axis z.position ids).ids))) (length-drop (separated m z.axis z.position ids).at (separated m z.axis z.position ids).ids ∙ ap (λ (n : ℕ). n - (separated m z.axis z.position ids).at) len) (ih (f + (separated m z.axis z.position ids).at) (drop (separated m z.axis z.position ids).at (separated m z.axis z.position ids).ids))))
 
 pub small_grow : (m : List Float) (d f : ℕ) (ids : List ℕ) → Small (length ids) (grow m d f ids)
 small_grow m zero f ids = deep_small m f ids (decision m ids) refl
@@ -153,8 +152,8 @@ pub record Mid (ids xs : List ℕ) (k : ℕ) : Type 0 where
   pub high : k < length ids
   pub len : length xs ≡ length ids
 
-pub mid : (m : List Float) (ids : List ℕ) (b q : Aabb) (w : SplitDecision) (a : ℕ) (p : Float) (xs : List ℕ) (k : ℕ)
-    → w ≡ best_split m ids b q → w ≡ Split a p → parts xs k ≡ separated m a p ids → Mid ids xs k
+pub mid : (m : List Float) (ids : List ℕ) (b q : Aabb) (w : Maybe Split) (a : ℕ) (p : Float) (xs : List ℕ) (k : ℕ)
+    → w ≡ best_split m ids b q → w ≡ split_at a p → parts xs k ≡ separated m a p ids → Mid ids xs k
 mid m ids b q w a p xs k ew es ek =
     let four : 4 < length ids = splits_four m ids b q a p (sym ew ∙ es) in
     subst⁻¹ (λ (s : Parted). Mid ids s.ids s.at) ek
@@ -253,7 +252,7 @@ left_deep b none r node next bs bs₁ bs₂ bs₃ ls ls₁ ls₂ ls₃ i₁ i₂
 left_deep b (some l) r node next bs bs₁ bs₂ bs₃ ls ls₁ ls₂ ls₃ i₁ i₂ p = absurd (never (next + 2 + below l.tree) (sym p.answer))
 
 -- ---- what `divide` answers and leaves, at each of its returns
-module _ (m : List Float) (d f : ℕ) (ids : List ℕ) (b : Aabb) (w : SplitDecision) (node next : ℕ) (bs bs₁ : List Float) (ls : List ℕ) (q : Aabb) (eb : b ≡ node_box m ids) (eq : q ≡ centroid_box m ids) (ew : w ≡ best_split m ids b q) (eB : bs₁ ≡ box_put bs node b) where
+module _ (m : List Float) (d f : ℕ) (ids : List ℕ) (b : Aabb) (w : Maybe Split) (node next : ℕ) (bs bs₁ : List Float) (ls : List ℕ) (q : Aabb) (eb : b ≡ node_box m ids) (eq : q ≡ centroid_box m ids) (ew : w ≡ best_split m ids b q) (eB : bs₁ ≡ box_put bs node b) where
   chosen : decision m ids ≡ w
   unfolding decision
   chosen = rw (← eb, ← eq) (sym ew)
@@ -267,17 +266,17 @@ module _ (m : List Float) (d f : ℕ) (ids : List ℕ) (b : Aabb) (w : SplitDeci
     links_are = eL;
   }
 
-  pub divided_leaf : (ls₁ : List ℕ) → w ≡ MakeLeaf → ls₁ ≡ link_put ls node f (length ids) 1 → Divided (grow m d f ids) node next bs ls (Some next) ids bs₁ ls₁
+  pub divided_leaf : (ls₁ : List ℕ) → w ≡ None → ls₁ ≡ link_put ls node f (length ids) 1 → Divided (grow m d f ids) node next bs ls (Some next) ids bs₁ ls₁
   divided_leaf ls₁ e eL =
       subst⁻¹ (λ (o : Option Grown). Divided o node next bs ls (Some next) ids bs₁ ls₁) (grow_leaf m d f ids (chosen ∙ e)) (tip_laid ls₁ eL)
 
-  pub divided_deep : (a : ℕ) (p : Float) (xs : List ℕ) (bs₂ : List Float) (ls₂ : List ℕ) → w ≡ Split a p → d ≡ 0 → Divided (grow m d f ids) node next bs ls None xs bs₂ ls₂
+  pub divided_deep : (a : ℕ) (p : Float) (xs : List ℕ) (bs₂ : List Float) (ls₂ : List ℕ) → w ≡ split_at a p → d ≡ 0 → Divided (grow m d f ids) node next bs ls None xs bs₂ ls₂
   divided_deep a p xs bs₂ ls₂ e z =
       subst⁻¹ (λ (o : Option Grown). Divided o node next bs ls None xs bs₂ ls₂) (ap (λ (n : ℕ). grow m n f ids) z ∙ grow_deep m f ids a p (chosen ∙ e)) refl
 
   -- a split: xs is the range rearranged, k where it is cut; i₁, bs₂, ls₂ are what the left half's division leaves
   module _ (a : ℕ) (p : Float) (xs : List ℕ) (k : ℕ) (ls₁ : List ℕ) (one : Maybe ℕ) (i₁ : List ℕ) (bs₂ : List Float) (ls₂ : List ℕ)
-      (es : w ≡ Split a p) (ek : parts xs k ≡ separated m a p ids) (ed : d ≡ 0 → ⊥) (eL : ls₁ ≡ link_put ls node next 0 0)
+      (es : w ≡ split_at a p) (ek : parts xs k ≡ separated m a p ids) (ed : d ≡ 0 → ⊥) (eL : ls₁ ≡ link_put ls node next 0 0)
       (D₁ : Divided (grow m (d - 1) f (take (k - 0) xs)) next (next + 2) bs₁ ls₁ one i₁ bs₂ ls₂) where
     one_less : suc (d - 1) ≡ d
     one_less = omega arith

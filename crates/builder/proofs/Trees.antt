@@ -9,12 +9,13 @@ use lib.ListN.{length, take, drop, length-drop, length-append, take-append-drop}
 use lib.Seq.{length-take-le}
 use lib.Dec.{T}
 use lib.Ieee.{Float}
+use Rattle.std.specs.Prelude.{Option as Maybe, Some, None}
 use Rattle.aabb.specs.Bounds.{bounded, contains}
 use Rattle.aabb.specs.declared.bounds.Aabb.{Aabb}
 use Rattle.aabb.proofs.Holds.{bounded_usable}
 use Rattle.triangle.specs.Mesh.{centroid_at}
-use Rattle.builder.specs.declared.split.SplitDecision.{SplitDecision}
-use Rattle.builder.specs.declared.split.SplitDecision.TheVariants.{MakeLeaf, Split}
+use Rattle.builder.specs.declared.split.Split.{Split}
+use Rattle.builder.specs.Choice.{split_at}
 use Rattle.builder.specs.Fallback.{sorts_before, ordered, separated}
 use Rattle.lent.specs.Permutation.{Perm, occ}
 use Rattle.tree.specs.Holds.{Inside, Nested, Finite, Occupied}
@@ -72,7 +73,7 @@ pub record Cut (ids xs : List ℕ) (k : ℕ) : Type 0 where
   pub len : length xs ≡ length ids
   pub same : Perm xs ids
 
-pub cut_of : (m : List Float) (ids : List ℕ) (a : ℕ) (p : Float) → decision m ids ≡ Split a p → Cut ids (separated m a p ids).ids (separated m a p ids).at
+pub cut_of : (m : List Float) (ids : List ℕ) (a : ℕ) (p : Float) → decision m ids ≡ split_at a p → Cut ids (separated m a p ids).ids (separated m a p ids).at
 cut_of m ids a p e =
     let four : 4 < length ids = decides_four m ids a p e in
     let mid = split_between m a p ids (omega arith) in
@@ -86,12 +87,12 @@ Of-some P (some g) = P g
 module _ (m : List Float) (P : ℕ → ℕ → List ℕ → Grown → Type 0)
     (on_leaf : (d f : ℕ) (ids : List ℕ) → P d f ids (grown_as (leaf (node_box m ids) f (length ids)) ids))
     (on_fork : (d f : ℕ) (ids xs : List ℕ) (k : ℕ) (l r : Grown) → Cut ids xs k → P d f (take k xs) l → P d (f + k) (drop k xs) r → P (suc d) f ids (grown_as (internal (node_box m ids) l.tree r.tree) (l.ids ++ r.ids))) where
-  leaf_has : (d f : ℕ) (ids : List ℕ) → decision m ids ≡ MakeLeaf → Of-some (P d f ids) (grow m d f ids)
+  leaf_has : (d f : ℕ) (ids : List ℕ) → decision m ids ≡ None → Of-some (P d f ids) (grow m d f ids)
   leaf_has d f ids e = subst⁻¹ (Of-some (P d f ids)) (grow_leaf m d f ids e) (on_leaf d f ids)
 
-  deep_has : (f : ℕ) (ids : List ℕ) (w : SplitDecision) → decision m ids ≡ w → Of-some (P 0 f ids) (grow m 0 f ids)
-  deep_has f ids MakeLeaf e = leaf_has 0 f ids e
-  deep_has f ids (Split a p) e = subst⁻¹ (Of-some (P 0 f ids)) (grow_deep m f ids a p e) 0
+  deep_has : (f : ℕ) (ids : List ℕ) (w : Maybe Split) → decision m ids ≡ w → Of-some (P 0 f ids) (grow m 0 f ids)
+  deep_has f ids None e = leaf_has 0 f ids e
+  deep_has f ids (Some z) e = subst⁻¹ (Of-some (P 0 f ids)) (grow_deep m f ids z.axis z.position e) 0
 
   joined_has : (d f : ℕ) (ids xs : List ℕ) (k : ℕ) (l r : Option Grown) → Cut ids xs k → Of-some (P d f (take k xs)) l → Of-some (P d (f + k) (drop k xs)) r → Of-some (P (suc d) f ids) (joined (node_box m ids) l r)
   unfolding joined
@@ -99,12 +100,12 @@ module _ (m : List Float) (P : ℕ → ℕ → List ℕ → Grown → Type 0)
   joined_has d f ids xs k (some l) none c p q = 0
   joined_has d f ids xs k (some l) (some r) c p q = on_fork d f ids xs k l r c p q
 
-  fork_has : (d f : ℕ) (ids : List ℕ) (w : SplitDecision) → decision m ids ≡ w → ((g : ℕ) (xs : List ℕ) → Of-some (P d g xs) (grow m d g xs)) → Of-some (P (suc d) f ids) (grow m (suc d) f ids)
-  fork_has d f ids MakeLeaf e ih = leaf_has (suc d) f ids e
-  fork_has d f ids (Split a p) e ih =
-      let s = separated m a p ids in
-      subst⁻¹ (Of-some (P (suc d) f ids)) (grow_fork m d f ids a p e)
-      (joined_has d f ids s.ids s.at (grow m d f (take s.at s.ids)) (grow m d (f + s.at) (drop s.at s.ids)) (cut_of m ids a p e) (ih f (take s.at s.ids)) (ih (f + s.at) (drop s.at s.ids)))
+  fork_has : (d f : ℕ) (ids : List ℕ) (w : Maybe Split) → decision m ids ≡ w → ((g : ℕ) (xs : List ℕ) → Of-some (P d g xs) (grow m d g xs)) → Of-some (P (suc d) f ids) (grow m (suc d) f ids)
+  fork_has d f ids None e ih = leaf_has (suc d) f ids e
+  fork_has d f ids (Some z) e ih =
+      let s = separated m z.axis z.position ids in
+      subst⁻¹ (Of-some (P (suc d) f ids)) (grow_fork m d f ids z.axis z.position e)
+      (joined_has d f ids s.ids s.at (grow m d f (take s.at s.ids)) (grow m d (f + s.at) (drop s.at s.ids)) (cut_of m ids z.axis z.position e) (ih f (take s.at s.ids)) (ih (f + s.at) (drop s.at s.ids)))
 
   pub grow_has : (d f : ℕ) (ids : List ℕ) → Of-some (P d f ids) (grow m d f ids)
   grow_has zero f ids = deep_has f ids (decision m ids) refl

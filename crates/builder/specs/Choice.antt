@@ -1,5 +1,5 @@
 -- The choice of a split (rules S1 to S9). Definitions only.
-use Rattle.std.specs.Prelude.{ℕ, ◌+◌, cond, List, [], ◌∷◌, length, replicate, leb, eqb, Float}
+use Rattle.std.specs.Prelude.{ℕ, ◌+◌, cond, List, [], ◌∷◌, length, replicate, leb, eqb, Float, Option, Some, None}
 use Rattle.std.specs.Float.Ieee.{add, sub, mul, div, lt, le}
 use Rattle.std.specs.Float.{binary64}
 use Rattle.float.specs.Number.{nought, one, one_and_half, sixteen, millionth, trillionth}
@@ -8,8 +8,7 @@ use Rattle.aabb.specs.Vector.{along}
 use Rattle.aabb.specs.Bounds.{area}
 use Rattle.builder.specs.declared.bins.Bin.{Bin}
 use Rattle.builder.specs.declared.split.Best.{Best}
-use Rattle.builder.specs.declared.split.SplitDecision.{SplitDecision}
-use Rattle.builder.specs.declared.split.SplitDecision.TheVariants.{Split, MakeLeaf}
+use Rattle.builder.specs.declared.split.Split.{Split}
 use Rattle.builder.specs.Bins.{whole, no_bin, join_bins, filled, suffix_of}
 
 -- Rule S7: (area·n)·1.5 of one side
@@ -53,15 +52,19 @@ unfoldable pub best_of_axes : List Float → List ℕ → Aabb → Float → Flo
 best_of_axes mesh range centroids parent leaf =
     try_axis mesh range centroids 2 parent (try_axis mesh range centroids 1 parent (try_axis mesh range centroids 0 parent (record { cost = leaf; axis = 0; position = nought })))
 
+-- a split on an axis at a position; none is a leaf
+abbrev pub split_at : ℕ → Float → Option Split
+split_at axis position = Some (record { axis = axis; position = position })
+
 -- Rule S9: a leaf, where nothing beats it
-unfoldable pub chosen : Float → Best → SplitDecision
-chosen leaf best = cond (lt best.cost leaf) (Split best.axis best.position) MakeLeaf
+unfoldable pub chosen : Float → Best → Option Split
+chosen leaf best = cond (lt best.cost leaf) (split_at best.axis best.position) None
 
 -- Rule S1: a leaf too, of so few triangles or of so small an area
-unfoldable pub best_split : List Float → List ℕ → Aabb → Aabb → SplitDecision
+unfoldable pub best_split : List Float → List ℕ → Aabb → Aabb → Option Split
 best_split mesh range bounds centroids =
     let leaf = leaf_cost range in
     let parent = area bounds in
-    cond (leb (length range) 4) MakeLeaf
-    (cond (le parent trillionth) MakeLeaf
+    cond (leb (length range) 4) None
+    (cond (le parent trillionth) None
     (chosen leaf (best_of_axes mesh range centroids parent leaf)))

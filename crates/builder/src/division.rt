@@ -5,7 +5,7 @@ ghost use Rattle.builder.specs.Tree.{grow};
 ghost use Rattle.builder.specs.Range.{Numbered};
 ghost use Rattle.builder.specs.Layout.{Divided};
 
-use crate::split::SplitDecision;
+use crate::split::Split;
 use crate::{nodes, partition, range, split};
 
 // The range, whose first stands at `first` of the index list, is divided as the tree at `node`. Nodes from `next` on are free, and `below` levels may
@@ -29,7 +29,7 @@ pub fn subdivide(
     let hull = range::around(triangles, index);
     nodes::put_box(boxes, node, hull.bounds);
     let decision = split::find_best_split(triangles, index, hull);
-    let SplitDecision::Split { axis, position } = decision else {
+    let Some(Split { axis, position }) = decision else {
         nodes::put_link(links, node, first as u32, index.len() as u32, 1);
         return Some(next);
     };

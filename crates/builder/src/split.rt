@@ -15,11 +15,11 @@ use crate::bins::{Axes, Bin};
 use crate::range::Hull;
 use aabb::{Aabb, Vec3};
 
-// The Rust's own enum, by its names.
-#[derive(Clone, Copy)]
-pub enum SplitDecision {
-    Split { axis: usize, position: f64 },
-    MakeLeaf,
+// Where a range is split; the Rust's `SplitDecision` is an `Option` of it here, none where it makes a leaf.
+#[derive(Clone, Copy, Debug)]
+pub struct Split {
+    pub axis: usize,
+    pub position: f64,
 }
 
 // The best split so far, with its cost.
@@ -175,26 +175,26 @@ fn best_of_axes(triangles: &[f64], index: &[u32], centroids: Aabb, parent: f64, 
 }
 
 // The best split of the range whose boxes are given, or none.
-pub fn find_best_split(triangles: &[f64], index: &[u32], hull: Hull) -> SplitDecision
+pub fn find_best_split(triangles: &[f64], index: &[u32], hull: Hull) -> Option<Split>
     requires numbered { Numbered triangles.now index.now }
     requires index_len_bound { length index.now ≤ most_triangles }
     ensures { result ≡ best_split triangles.now index.now hull.bounds hull.centroids }
 {
     if index.len() <= Aabb::MAX_LEAF_PRIMITIVES {
-        return SplitDecision::MakeLeaf;
+        return None;
     }
     let parent = hull.bounds.surface_area();
     if parent <= 1e-12 {
-        return SplitDecision::MakeLeaf;
+        return None;
     }
     let count = index.len() as u32;
     let leaf = (count as f64) * Aabb::SAH_INTERSECTION_COST;
     let best = best_of_axes(triangles, index, hull.centroids, parent, leaf);
     if best.cost < leaf {
-        return SplitDecision::Split {
+        return Some(Split {
             axis: best.axis,
             position: best.position,
-        };
+        });
     }
-    SplitDecision::MakeLeaf
+    None
 }

@@ -14,8 +14,7 @@ use Rattle.aabb.specs.Vector.{vec}
 use Rattle.triangle.specs.declared.Hit.{Hit}
 use Rattle.triangle.proofs.Steps.{hit}
 use Rattle.builder.specs.Reply.{Reply}
-use Rattle.builder.specs.declared.split.SplitDecision.{SplitDecision}
-use Rattle.builder.specs.declared.split.SplitDecision.TheVariants.{Split, MakeLeaf}
+use Rattle.builder.specs.declared.split.Split.{Split}
 use Rattle.builder.specs.Build.{Outcome, outcome}
 use Rattle.lent.specs.Ladder.{Refusal, none, numbered}
 use Rattle.walk.specs.Answer.{Told}
@@ -96,17 +95,20 @@ span_is None (Some b) h = absurd h
 span_is (Some a) None h = absurd h
 
 -- ---- splits
-abbrev pub same_split : SplitDecision → SplitDecision → Bool
-same_split MakeLeaf MakeLeaf = true
-same_split (Split a p) (Split b q) = eqb a b && same_float p q
-same_split MakeLeaf (Split b q) = false
-same_split (Split a p) MakeLeaf = false
+abbrev pub same_split : Option Split → Option Split → Bool
+same_split None None = true
+same_split (Some a) (Some b) = eqb a.axis b.axis && same_float a.position b.position
+same_split None (Some b) = false
+same_split (Some a) None = false
 
-pub split_is : (x y : SplitDecision) → T (same_split x y) → x ≡ y
-split_is MakeLeaf MakeLeaf h = refl
-split_is (Split a p) (Split b q) h = let e = eqb→eq a b (and_l (eqb a b) (same_float p q) h) in let f = float_is p q (and_r (eqb a b) (same_float p q) h) in rw (e, f)
-split_is MakeLeaf (Split b q) h = absurd h
-split_is (Split a p) MakeLeaf h = absurd h
+pub split_is : (x y : Option Split) → T (same_split x y) → x ≡ y
+split_is None None h = refl
+split_is (Some a) (Some b) h =
+    let p = eqb→eq a.axis b.axis (and_l (eqb a.axis b.axis) (same_float a.position b.position) h) in
+    let q = float_is a.position b.position (and_r (eqb a.axis b.axis) (same_float a.position b.position) h) in
+    λ i. Some (record { axis = p i; position = q i })
+split_is None (Some b) h = absurd h
+split_is (Some a) None h = absurd h
 
 -- ---- hits
 abbrev same_vector : Vec3 → Vec3 → Bool

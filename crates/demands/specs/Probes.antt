@@ -9,8 +9,8 @@ use Rattle.aabb.specs.Vector.{vec}
 use Rattle.aabb.specs.Bounds.{box, box_at}
 use Rattle.aabb.specs.Slab.{passed, slab}
 use Rattle.builder.specs.Reply.{served_reply}
-use Rattle.builder.specs.declared.split.SplitDecision.{SplitDecision}
-use Rattle.builder.specs.declared.split.SplitDecision.TheVariants.{Split}
+use Rattle.builder.specs.declared.split.Split.{Split}
+use Rattle.builder.specs.Choice.{split_at}
 use Rattle.builder.specs.Tree.{decision}
 use Rattle.lent.specs.Permutation.{up_to}
 use Rattle.builder.specs.Build.{Outcome, outcome, room, built}
@@ -45,7 +45,7 @@ pub data Probe : Type 0 where
   -- a ray against the root's box, read from the built lists of a mesh
   slabbed_root : List Float → Ray → Option Span → Probe
   -- the split of a whole mesh
-  split : List Float → SplitDecision → Probe
+  split : List Float → Option Split → Probe
   -- a mesh, built in room that just suffices
   grown : List Float → Outcome → Probe
   -- a ray walked through the built tree of a mesh with these materials
@@ -174,7 +174,7 @@ probes =
     -- P9: T five times over is one leaf
     grown (T ++ T ++ T ++ T ++ T) (outcome (served_reply 1 1) (0 ∷ 1 ∷ 2 ∷ 3 ∷ 4 ∷ []) (flat ++ replicate 48 (int 0)) (0 ∷ 5 ∷ 1 ∷ replicate 24 0)) ∷
     -- P10: the row of five is split on x at 21, two to the left and three to the right
-    split five (Split 0 (int 21)) ∷
+    split five (split_at 0 (int 21)) ∷
     grown five
     (outcome (served_reply 3 2) (0 ∷ 1 ∷ 3 ∷ 4 ∷ 2 ∷ []) (along_x (int 0) (int 67) ++ along_x (int 0) (int 19) ++ along_x (times 1 5) (int 67) ++ replicate 36 (int 0))
     (1 ∷ 0 ∷ 0 ∷ 0 ∷ 2 ∷ 1 ∷ 2 ∷ 3 ∷ 1 ∷ replicate 18 0)) ∷

@@ -41,7 +41,7 @@ returns-then-below-eq0 t c =
     let h = c.around-hull in
     let b = c.put_box in
     let f = c.find_best_split-decision in
-    divided_deep a.triangles.now a.below a.first a.index.now h.result.bounds f.result a.node a.next a.boxes.now b.new.boxes a.links.now h.result.centroids h.ensures.0 h.ensures.1 f.ensures b.ensures c.in-Split.axis c.in-Split.position a.index.now b.new.boxes a.links.now c.in-Split.is c.if-below-eq0.true
+    divided_deep a.triangles.now a.below a.first a.index.now h.result.bounds f.result a.node a.next a.boxes.now b.new.boxes a.links.now h.result.centroids h.ensures.0 h.ensures.1 f.ensures b.ensures c.in-Some.field-0.axis c.in-Some.field-0.position a.index.now b.new.boxes a.links.now c.in-Some.is c.if-below-eq0.true
 
 pub separate-left-requires : goal.separate-left-requires
 separate-left-requires t c = omega (arith, c.requires.index_bound)
@@ -58,7 +58,7 @@ slice_bounds-subdivide-end t c =
     let s = c.separate-left in
     let h = c.around-hull in
     let f = c.find_best_split-decision in
-    let q : Mid a.index.now s.new.index s.result = mid a.triangles.now a.index.now h.result.bounds h.result.centroids f.result c.in-Split.axis c.in-Split.position s.new.index s.result f.ensures c.in-Split.is s.ensures in
+    let q : Mid a.index.now s.new.index s.result = mid a.triangles.now a.index.now h.result.bounds h.result.centroids f.result c.in-Some.field-0.axis c.in-Some.field-0.position s.new.index s.result f.ensures c.in-Some.is s.ensures in
     omega (arith, q)
 
 pub overflow_add-next : goal.overflow_add-next
@@ -73,8 +73,8 @@ subdivide-requires t c =
     let s = c.separate-left in
     let h = c.around-hull in
     let f = c.find_best_split-decision in
-    let q : Mid a.index.now s.new.index s.result = mid a.triangles.now a.index.now h.result.bounds h.result.centroids f.result c.in-Split.axis c.in-Split.position s.new.index s.result f.ensures c.in-Split.is s.ensures in
-    let part = length-take-le (s.result - 0) s.new.index (omega (arith, q)) in let laid = left_room a.first a.node a.next (length a.index.now) s.result _ (length a.boxes.now) _ (length a.links.now) _ q.low q.high part c.put_box.auto.boxes c.put_link-2.auto.links (c.requires.index_bound, c.requires.index_in_bounds) in (omega (arith, c.decreases, c.if-below-eq0.false), (left_has (λ (v : ℕ). v < length a.triangles.now / 12) a.triangles.now c.in-Split.axis c.in-Split.position a.index.now s.new.index s.result s.ensures c.requires.numbered (s.result - 0), laid))
+    let q : Mid a.index.now s.new.index s.result = mid a.triangles.now a.index.now h.result.bounds h.result.centroids f.result c.in-Some.field-0.axis c.in-Some.field-0.position s.new.index s.result f.ensures c.in-Some.is s.ensures in
+    let part = length-take-le (s.result - 0) s.new.index (omega (arith, q)) in let laid = left_room a.first a.node a.next (length a.index.now) s.result _ (length a.boxes.now) _ (length a.links.now) _ q.low q.high part c.put_box.auto.boxes c.put_link-2.auto.links (c.requires.index_bound, c.requires.index_in_bounds) in (omega (arith, c.decreases, c.if-below-eq0.false), (left_has (λ (v : ℕ). v < length a.triangles.now / 12) a.triangles.now c.in-Some.field-0.axis c.in-Some.field-0.position a.index.now s.new.index s.result s.ensures c.requires.numbered (s.result - 0), laid))
 
 pub shape_of-index-in_err-then : goal.shape_of-index-in_err-then
 shape_of-index-in_err-then t c = omega (arith, c.separate-left.auto)
@@ -94,7 +94,7 @@ returns-in_err-then t c =
     let s = c.separate-left in
     let k = c.put_link-2 in
     let o = c.subdivide in
-    subst⁻¹ (λ (r : Option ℕ). Divided (grow a.triangles.now a.below a.first a.index.now) a.node a.next a.boxes.now a.links.now r (o.new.index ++ post_of 0 (s.result - 0) s.new.index) o.new.boxes o.new.links) c.from_residual.ensures (divided_left a.triangles.now a.below a.first a.index.now h.result.bounds f.result a.node a.next a.boxes.now b.new.boxes a.links.now h.result.centroids h.ensures.0 h.ensures.1 f.ensures b.ensures c.in-Split.axis c.in-Split.position s.new.index s.result k.new.links o.result o.new.index o.new.boxes o.new.links c.in-Split.is s.ensures c.if-below-eq0.false k.ensures o.ensures (o.new.index ++ post_of 0 (s.result - 0) s.new.index) o.new.boxes o.new.links c.in_err-then.was)
+    subst⁻¹ (λ (r : Option ℕ). Divided (grow a.triangles.now a.below a.first a.index.now) a.node a.next a.boxes.now a.links.now r (o.new.index ++ post_of 0 (s.result - 0) s.new.index) o.new.boxes o.new.links) c.from_residual.ensures (divided_left a.triangles.now a.below a.first a.index.now h.result.bounds f.result a.node a.next a.boxes.now b.new.boxes a.links.now h.result.centroids h.ensures.0 h.ensures.1 f.ensures b.ensures c.in-Some.field-0.axis c.in-Some.field-0.position s.new.index s.result k.new.links o.result o.new.index o.new.boxes o.new.links c.in-Some.is s.ensures c.if-below-eq0.false k.ensures o.ensures (o.new.index ++ post_of 0 (s.result - 0) s.new.index) o.new.boxes o.new.links c.in_err-then.was)
 
 pub offset_bounds-index-left : goal.offset_bounds-index-left
 offset_bounds-index-left t c =
@@ -102,7 +102,7 @@ offset_bounds-index-left t c =
     let s = c.separate-left in
     let h = c.around-hull in
     let f = c.find_best_split-decision in
-    let q : Mid a.index.now s.new.index s.result = mid a.triangles.now a.index.now h.result.bounds h.result.centroids f.result c.in-Split.axis c.in-Split.position s.new.index s.result f.ensures c.in-Split.is s.ensures in
+    let q : Mid a.index.now s.new.index s.result = mid a.triangles.now a.index.now h.result.bounds h.result.centroids f.result c.in-Some.field-0.axis c.in-Some.field-0.position s.new.index s.result f.ensures c.in-Some.is s.ensures in
     omega (arith, q, c.requires.index_bound, c.requires.index_in_bounds)
 
 pub slice_bounds-subdivide-count-2 : goal.slice_bounds-subdivide-count-2
@@ -111,7 +111,7 @@ slice_bounds-subdivide-count-2 t c =
     let s = c.separate-left in
     let h = c.around-hull in
     let f = c.find_best_split-decision in
-    let q : Mid a.index.now s.new.index s.result = mid a.triangles.now a.index.now h.result.bounds h.result.centroids f.result c.in-Split.axis c.in-Split.position s.new.index s.result f.ensures c.in-Split.is s.ensures in
+    let q : Mid a.index.now s.new.index s.result = mid a.triangles.now a.index.now h.result.bounds h.result.centroids f.result c.in-Some.field-0.axis c.in-Some.field-0.position s.new.index s.result f.ensures c.in-Some.is s.ensures in
     let le : s.result ≤ length s.new.index = omega (arith, q) in
     omega (arith, halves_length s.new.index c.subdivide.new.index s.result le c.subdivide.auto.index)
 
@@ -121,7 +121,7 @@ slice_bounds-subdivide-start-2 t c =
     let s = c.separate-left in
     let h = c.around-hull in
     let f = c.find_best_split-decision in
-    let q : Mid a.index.now s.new.index s.result = mid a.triangles.now a.index.now h.result.bounds h.result.centroids f.result c.in-Split.axis c.in-Split.position s.new.index s.result f.ensures c.in-Split.is s.ensures in
+    let q : Mid a.index.now s.new.index s.result = mid a.triangles.now a.index.now h.result.bounds h.result.centroids f.result c.in-Some.field-0.axis c.in-Some.field-0.position s.new.index s.result f.ensures c.in-Some.is s.ensures in
     let le : s.result ≤ length s.new.index = omega (arith, q) in
     omega (arith, halves_length s.new.index c.subdivide.new.index s.result le c.subdivide.auto.index)
 
@@ -134,7 +134,7 @@ overflow_add-first t c =
     let s = c.separate-left in
     let h = c.around-hull in
     let f = c.find_best_split-decision in
-    let q : Mid a.index.now s.new.index s.result = mid a.triangles.now a.index.now h.result.bounds h.result.centroids f.result c.in-Split.axis c.in-Split.position s.new.index s.result f.ensures c.in-Split.is s.ensures in
+    let q : Mid a.index.now s.new.index s.result = mid a.triangles.now a.index.now h.result.bounds h.result.centroids f.result c.in-Some.field-0.axis c.in-Some.field-0.position s.new.index s.result f.ensures c.in-Some.is s.ensures in
     omega (arith, q, c.requires.index_bound, c.requires.index_in_bounds)
 
 pub overflow_sub-below-2 : goal.overflow_sub-below-2
@@ -146,13 +146,13 @@ subdivide-requires-2 t c =
     let s = c.separate-left in
     let h = c.around-hull in
     let f = c.find_best_split-decision in
-    let q : Mid a.index.now s.new.index s.result = mid a.triangles.now a.index.now h.result.bounds h.result.centroids f.result c.in-Split.axis c.in-Split.position s.new.index s.result f.ensures c.in-Split.is s.ensures in
+    let q : Mid a.index.now s.new.index s.result = mid a.triangles.now a.index.now h.result.bounds h.result.centroids f.result c.in-Some.field-0.axis c.in-Some.field-0.position s.new.index s.result f.ensures c.in-Some.is s.ensures in
     let le : s.result ≤ length s.new.index = omega (arith, q) in
     let b = c.put_box in
     let k = c.put_link-2 in
     let o = c.subdivide in
     let half = ap length (second_half s.new.index o.new.index s.result le o.auto.index) ∙ length-drop s.result s.new.index ∙ ap (λ (z : ℕ). z - s.result) q.len in
-    let room = then_room a.triangles.now a.below a.first a.index.now h.result.bounds f.result a.node a.next a.boxes.now b.new.boxes a.links.now h.result.centroids h.ensures.0 h.ensures.1 f.ensures b.ensures c.in-Split.axis c.in-Split.position s.new.index s.result k.new.links o.result o.new.index o.new.boxes o.new.links c.in-Split.is s.ensures c.if-below-eq0.false k.ensures o.ensures c.in_ok-then.then c.in_ok-then.was le in let laid = right_room a.first a.node a.next (length a.index.now) s.result _ c.in_ok-then.then (length a.boxes.now) _ (length a.links.now) _ q.low q.high half room.0 room.1 (o.auto.boxes ∙ b.auto.boxes) (o.auto.links ∙ k.auto.links) (c.requires.index_bound, c.requires.index_in_bounds) in (omega (arith, c.decreases, c.if-below-eq0.false), (λ v i. right_has (λ (v : ℕ). v < length a.triangles.now / 12) a.triangles.now c.in-Split.axis c.in-Split.position a.index.now s.new.index s.result s.ensures c.requires.numbered s.result v (subst (λ (l : List ℕ). 0 < occ v l) (second_half s.new.index o.new.index s.result le o.auto.index) i), laid))
+    let room = then_room a.triangles.now a.below a.first a.index.now h.result.bounds f.result a.node a.next a.boxes.now b.new.boxes a.links.now h.result.centroids h.ensures.0 h.ensures.1 f.ensures b.ensures c.in-Some.field-0.axis c.in-Some.field-0.position s.new.index s.result k.new.links o.result o.new.index o.new.boxes o.new.links c.in-Some.is s.ensures c.if-below-eq0.false k.ensures o.ensures c.in_ok-then.then c.in_ok-then.was le in let laid = right_room a.first a.node a.next (length a.index.now) s.result _ c.in_ok-then.then (length a.boxes.now) _ (length a.links.now) _ q.low q.high half room.0 room.1 (o.auto.boxes ∙ b.auto.boxes) (o.auto.links ∙ k.auto.links) (c.requires.index_bound, c.requires.index_in_bounds) in (omega (arith, c.decreases, c.if-below-eq0.false), (λ v i. right_has (λ (v : ℕ). v < length a.triangles.now / 12) a.triangles.now c.in-Some.field-0.axis c.in-Some.field-0.position a.index.now s.new.index s.result s.ensures c.requires.numbered s.result v (subst (λ (l : List ℕ). 0 < occ v l) (second_half s.new.index o.new.index s.result le o.auto.index) i), laid))
 
 pub shape_of-index : goal.shape_of-index
 shape_of-index t c = omega (arith, c.separate-left.auto)
@@ -169,12 +169,12 @@ returns t c =
     let s = c.separate-left in
     let h = c.around-hull in
     let f = c.find_best_split-decision in
-    let q : Mid a.index.now s.new.index s.result = mid a.triangles.now a.index.now h.result.bounds h.result.centroids f.result c.in-Split.axis c.in-Split.position s.new.index s.result f.ensures c.in-Split.is s.ensures in
+    let q : Mid a.index.now s.new.index s.result = mid a.triangles.now a.index.now h.result.bounds h.result.centroids f.result c.in-Some.field-0.axis c.in-Some.field-0.position s.new.index s.result f.ensures c.in-Some.is s.ensures in
     let le : s.result ≤ length s.new.index = omega (arith, q) in
     let b = c.put_box in
     let k = c.put_link-2 in
     let o = c.subdivide in
     let w = c.subdivide-2 in
     let back = o.new.index ++ post_of 0 (s.result - 0) s.new.index in
-    divided_both a.triangles.now a.below a.first a.index.now h.result.bounds f.result a.node a.next a.boxes.now b.new.boxes a.links.now h.result.centroids h.ensures.0 h.ensures.1 f.ensures b.ensures c.in-Split.axis c.in-Split.position s.new.index s.result k.new.links o.result o.new.index o.new.boxes o.new.links c.in-Split.is s.ensures c.if-below-eq0.false k.ensures o.ensures c.in_ok-then.then w.result (mid_of s.result (length back - s.result) back) w.new.index (put_mid s.result (length back - s.result) back w.new.index) w.new.boxes w.new.links c.in_ok-then.was
+    divided_both a.triangles.now a.below a.first a.index.now h.result.bounds f.result a.node a.next a.boxes.now b.new.boxes a.links.now h.result.centroids h.ensures.0 h.ensures.1 f.ensures b.ensures c.in-Some.field-0.axis c.in-Some.field-0.position s.new.index s.result k.new.links o.result o.new.index o.new.boxes o.new.links c.in-Some.is s.ensures c.if-below-eq0.false k.ensures o.ensures c.in_ok-then.then w.result (mid_of s.result (length back - s.result) back) w.new.index (put_mid s.result (length back - s.result) back w.new.index) w.new.boxes w.new.links c.in_ok-then.was
     (second_half s.new.index o.new.index s.result le o.auto.index) w.ensures (both_halves s.new.index o.new.index s.result le o.auto.index w.new.index)
