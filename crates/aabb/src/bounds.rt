@@ -116,7 +116,7 @@ impl Aabb {
     }
 
     // Whether no min is above its max and no number is beyond 2^40 in size (rule N4). A NaN fails the first test; after it the lowest
-    // min and the highest max tell for all six.
+    // min and the highest max tell for all six. (Three tests, the third under that premise: one chain of them would be no plainer.)
     pub fn bounded(self) -> bool
         ensures { result ≡ bounded self }
     {

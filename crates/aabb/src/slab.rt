@@ -13,7 +13,8 @@ pub struct Span {
     pub exit: f64,
 }
 
-// One axis of a ray: its origin there, 1/dir, and whether |dir| < 1e-12.
+// One axis of a ray: its origin there, 1/dir, and whether |dir| < 1e-12. (A flag beside numbers, not an enum: a flat axis needs the origin too, and the
+// test asks the flag once.)
 #[derive(Clone, Copy)]
 pub struct Sight {
     pub origin: f64,

@@ -164,7 +164,7 @@ impl Vec3 {
         self.x == k && self.y == k && self.z == k
     }
 
-    // The three numbers of a lent slice from place `at` on; a NaN for each place beyond its end.
+    // The three numbers of a lent slice from place `at` on; a NaN for each place beyond its end. (Number by number alone would look at the end three times.)
     pub fn read(numbers: &[f64], at: usize) -> Vec3
         ensures { result ≡ vector_at numbers.now at }
     {

@@ -20,7 +20,8 @@ use lent::{Reason, Refused};
 pub use rejection::{Condition, Rejection};
 use tree::Lists;
 
-// The conditions in their order. What is written stays in the work room.
+// The conditions in their order. What is written stays in the work room: one slice, since C lends one, used anew for each condition. A condition takes the lists
+// that it reads and no others.
 fn judge(triangles: &[f64], tree: &Lists, work: &mut [u32]) -> Result<(), Rejection>
     requires { (0 < node_count tree.now.links) × (node_count tree.now.links ≤ most_nodes) × (node_count tree.now.links + triangle_count triangles.now ≤ length work.old) }
     ensures work_len_unchanged { length work.new ≡ length work.old }

@@ -33,7 +33,8 @@ pub struct Built {
 // entries and the 2L-1 nodes stays (rule C9). Refused, in this order: 1 the triangles are not in twelves; 2 more than 65,536 of them (at: how
 // many); 3 less index room than one a triangle; 4 room for fewer nodes than the triangles can have, in boxes or in links (at: how many,
 // 2n-1 or 1); 5 a triangle isn't admitted (at: the lowest such number); 6 the tree would go deeper than 63. Refusals 1 to 5 write nothing;
-// after 6 every number that was lent to be written is zero.
+// after 6 every number that was lent to be written is zero. (The room is three lists, as C lends them; a struct of three `&mut` would be taken apart again
+// at once, since a division cuts the index list alone.)
 #[tactic(auto, using(crate::proofs::StartLoops::room_is), unfolding(crate::specs::Build::built, crate::specs::Reply::reply, triangle::specs::Mesh::unadmitted, lent::specs::Ladder::unless, lent::specs::Ladder::answered, lent::specs::Ladder::first_failed))]
 pub fn build(
     triangles: &[f64],

@@ -91,6 +91,7 @@ pub fn sift(triangles: &[f64], index: &mut [u32], axis: usize, at: usize)
 {
     let own = Ranked::of(triangles, axis, index[at]);
     let mut i = at;
+    // A `while`: what moves is a place of the heap, downwards, and no index is counted.
     while 2 * i + 1 < index.len() {
         let g = greater_child(triangles, index, axis, i);
         if !is_ahead(own, g.own) {

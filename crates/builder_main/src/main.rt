@@ -67,7 +67,7 @@ fn heaps(mesh: &mut [f64]) {
     }
 }
 
-// ---- printing
+// ---- printing (each program stands alone, so these few lines stand in each)
 fn number(n: usize) {
     io::write_all(1, b" ");
     io::print_decimal(1, n as u64);

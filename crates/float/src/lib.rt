@@ -18,7 +18,7 @@ pub use single::is_single;
 // 2^40, the limit of vertices, of a ray's origin and of boxes.
 pub const TWO_TO_40: f64 = 1099511627776.0;
 
-// +inf.
+// +inf: the library's constant, kept as a call since it was a public one and docs/DECISIONS.md names it.
 pub fn infinity() -> f64
     ensures { result ≡ infinity }
 {

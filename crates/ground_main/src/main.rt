@@ -40,7 +40,7 @@ fn bounds(min: Vec3, max: Vec3) -> Aabb {
     Aabb { min, max }
 }
 
-// ---- printing
+// ---- printing (each program stands alone, so these few lines stand in each)
 fn number(x: f64) {
     io::write_all(1, b" ");
     io::print_hex(1, float::bits(x), 16);

@@ -210,7 +210,7 @@ fn triangle_numbers(t: Triangle) -> [f64; 12]
     ]
 }
 
-// What `accept` answered: the number, with `told` written.
+// What `accept` answered: the number, with `told` written, as C reads it.
 #[tactic(auto, using(lent::proofs::Refusals::no_condition), unfolding(accept::specs::Accept::ruling, crate::specs::Report::refusal_number, crate::specs::Report::condition_told, crate::specs::Report::accept_told))]
 fn tell_accept(answer: Result<(), Rejection>, told: &mut [u64; 2]) -> u32
     ensures value { result ≡ refusal_number (ruling answer).refusal }

@@ -73,7 +73,8 @@ fn triangle<R: Read>(file: &mut R) -> Result<bool, Fault> {
 }
 
 // A build, a walk or a sky: the lengths of the four lists (triangles, index, boxes, links), then the case in as much room. The triangles come first in each;
-// in a walk and a sky the materials and the tree come next.
+// in a walk and a sky the materials and the tree come next. (The three share the reading, so a
+// closure a kind would be no plainer.)
 fn lists<R: Read>(file: &mut R, kind: Kind, score: Score) -> Result<Score, Fault> {
     let mut lengths = [0; 4];
     fill(file, &mut lengths)?;

@@ -14,7 +14,7 @@ use lent::{Reason, Refused};
 use tree::{Lent, Mesh};
 use walk::Answer;
 
-// What one place holds (rule K2): 0 for a miss, 100 for a hit, else the refusal number; which triangle, or where it was refused; t; u and
+// What one place holds (rule K2), in numbers, since C reads them: 0 for a miss, 100 for a hit, else the refusal number; which triangle, or where it was refused; t; u and
 // v; the box tests and the triangle tests; the material; zeros for what there isn't.
 #[derive(Clone, Copy)]
 pub struct Place {
@@ -105,7 +105,7 @@ fn fill(scene: &Lent, rays: &[f64], times: &mut [f64], told: &mut [u64])
 
 // What `sky` would answer for these, with nothing written: the refusals of the whole call, in this order: 1 triangles that are not in twelves;
 // 2 more than 65,536 of them; 18 not one material for each; 14 rays that are not in sixes; 13 times shorter than three a ray or told shorter than
-// five. The first three are a walk's, too; each ladder stands whole, in its rule's order.
+// five. The first three are a walk's, too.
 #[tactic(auto, unfolding(crate::specs::Sky::sky_checks, lent::specs::Ladder::first_failed))]
 pub fn judge(mesh: &Mesh, rays: &[f64], times: &[f64], told: &[u64]) -> Result<(), Refused>
     ensures { refusal_of result ≡ first_failed (sky_checks mesh.now rays.now times.now told.now) }

@@ -18,7 +18,7 @@ pub struct Node {
     pub kind: u32,
 }
 
-// The word at a place of a lent slice, or 0 beyond its end.
+// The word at a place of a lent slice, or 0 beyond its end. (A call of its own: `get` with `copied` and `unwrap_or` would stand at each of its uses.)
 pub fn word(words: &[u32], at: usize) -> u32
     ensures { result ≡ get_or words.now at 0 }
 {
@@ -51,7 +51,7 @@ fn cut(bounds: Aabb, links: &[u32], i: usize) -> Node
 }
 
 impl Node {
-    // Node i; a NaN for each number of box, and 0 for each link, that is beyond the lists' ends.
+    // Node i; a NaN for each number of box, and 0 for each link, that is beyond the lists' ends. (Two slices, not `Lists`: a node has no part in the index list.)
     #[tactic(auto, unfolding(crate::specs::Node::linked, crate::specs::Node::node_at))]
     pub fn read(boxes: &[f64], links: &[u32], i: usize) -> Node
         ensures { result ≡ node_at boxes.now links.now i }

@@ -8,7 +8,7 @@ use Rattle.tree.specs.declared.Node.{Node}
 use Rattle.tree.specs.Lent.{Lists, node_count}
 use Rattle.tree.specs.Node.{left_or_first, node_of, sound, left_of, right_of}
 
--- what is gathered so far, or a refusal with its `at`
+-- what is gathered so far, or a refusal with its `at` (by its number, as document 01 has it)
 pub data Went (A : Type 0) : Type 0 where
   on : A → Went A
   stop : ℕ → ℕ → Went A

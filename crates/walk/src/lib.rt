@@ -78,6 +78,7 @@ fn run(scene: &Lent, ray: Ray) -> Result<Answer, Refused>
         triangles: 0,
         nearest: None,
     };
+    // A `while`: nothing is counted, it goes on until no node is pending.
     while 0 < pending.len {
         let besides = pending.len - 1;
         let i = last;

@@ -21,7 +21,7 @@ fn main() {
     skies();
 }
 
-// ---- printing
+// ---- printing (each program stands alone, so these few lines stand in each)
 fn number(x: f64) {
     io::write_all(1, b" ");
     io::print_hex(1, float::bits(x), 16);

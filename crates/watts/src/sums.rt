@@ -12,7 +12,7 @@ pub struct Figures {
     pub total: u64,
 }
 
-// One ray more, of this outcome and weight.
+// One ray more, of this outcome (a number, as it stands in the answer room that C reads) and weight.
 #[tactic(auto, unfolding(crate::specs::Watts::weighed))]
 fn weighed(sums: Figures, outcome: u64, weight: u32) -> Figures
     requires { (sums.shaded < 2 ^ 62) × (sums.«open» < 2 ^ 62) × (sums.refused < 2 ^ 62) × (sums.total < 2 ^ 62) }
