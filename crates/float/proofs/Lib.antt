@@ -10,8 +10,7 @@ pub mod Pick
 mod Absolute
 pub mod Total
 mod Patterns
-mod SingleForms
-pub mod SingleExact
+pub mod SingleRounded
 mod RootWhole
 mod RootScaled
 mod RootRead

@@ -1,16 +1,16 @@
--- A NaN is none; a zero, and what has few digits, is one; else the one that the pattern points to is x again, or x is none. Assumes nothing.
+-- A NaN is none; a zero, and what has few digits, is one; any other number is told by rounding it. Assumes nothing.
 use mathlib.Core.Path.{sym}
 use Rattle.float.proofs.Cases.{true_is}
 use Rattle.float.proofs.Patterns.{no_nan}
-use Rattle.float.proofs.SingleExact.{nan_inexact, real_number, widens, exact_is, zero_exact, short_exact}
+use Rattle.float.proofs.SingleRounded.{nan_inexact, zero_exact, short_exact}
 use Rattle.float.proofs.single.is_single.Goals as goal
 use Rattle.float.proofs.single.is_single.Goals.{then-size-eq0-via-then-size-eq0, then-size-eq0-via-else-size-eq0+then-short}
 
 pub returns-then-is_nan : goal.returns-then-is_nan
 returns-then-is_nan c = nan_inexact c.args.x (sym c.if-is_nan.ensures.value)
 
-pub float_to_bits-pattern : goal.float_to_bits-pattern
-float_to_bits-pattern c = no_nan c.args.x (sym c.if-is_nan.ensures.value)
+pub float_to_bits-size : goal.float_to_bits-size
+float_to_bits-size c = no_nan c.args.x (sym c.if-is_nan.ensures.value)
 
 pub returns-then-size-eq0 : goal.returns-then-size-eq0
 returns-then-size-eq0 c =
@@ -21,12 +21,5 @@ returns-then-size-eq0 c =
       | then-size-eq0-via-else-size-eq0+then-short w ↦ let s = w.short.ensures (true_is _ w.if-short.true) in short_exact c.args.x held real s.0 s.1 s.2
     ]
 
-pub float_to_float-back : goal.float_to_float-back
-float_to_float-back c = widens c.candidate.result c.candidate.ensures.0
-
-pub float_to_bits-result : goal.float_to_bits-result
-float_to_bits-result c = real_number c.candidate.result c.candidate.ensures.0
-
-pub returns : goal.returns
-returns c =
-    exact_is c.args.x c.candidate.result (true_is _ c.well_formed.0.1) (no_nan c.args.x (sym c.if-is_nan.ensures.value)) c.candidate.ensures
+pub stays-requires : goal.stays-requires
+stays-requires c = no_nan c.args.x (sym c.if-is_nan.ensures.value)
