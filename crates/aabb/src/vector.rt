@@ -201,7 +201,11 @@ fn limited(x: f64, limit: f64) -> bool
 fn number(numbers: &[f64], at: usize) -> f64
     ensures { result ≡ number_at numbers.now at }
 {
-    if at < numbers.len() { numbers[at] } else { f64::NAN }
+    if at < numbers.len() {
+        numbers[at]
+    } else {
+        f64::NAN
+    }
 }
 
 // Where record i of a lent slice starts, `width` numbers each, or the slice's end where it would start beyond it.

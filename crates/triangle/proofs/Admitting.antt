@@ -25,7 +25,6 @@ all_admitted m k i h = none_below (refused_at m) i k (λ j p q. ap not (is_true 
 
 -- ---- check 5, the last of a ladder
 module _ {A : Type 0} {refused : ℕ → ℕ → A} {served x : A} {f : (Option ℕ)} where
-
   pub none_bad : f ≡ None → x ≡ served → Ends (unadmitted f ∷ []) refused served x
   unfolding unadmitted
   none_bad p e = rw p (goes refl (serves e))

@@ -227,14 +227,7 @@ fn nodes() {
     root(b"box upside down", 1.0, 0.0, 0, 1, 1);
     root(b"box over 2^40", 0.0, 1099511627777.0, 0, 1, 1);
     root(b"box at 2^40", 0.0, 1099511627776.0, 0, 1, 1);
-    root(
-        b"box infinite",
-        -f64::INFINITY,
-        f64::INFINITY,
-        0,
-        1,
-        1,
-    );
+    root(b"box infinite", -f64::INFINITY, f64::INFINITY, 0, 1, 1);
     root(b"right child beyond", 0.0, 0.0, 1, 0, 0);
     root(b"left child beyond", 0.0, 0.0, 2, 0, 0);
     root(b"left child 2^32 - 1", 0.0, 0.0, 4294967295, 0, 0);
