@@ -5,8 +5,8 @@ ghost use Rattle.float.specs.Single.{exactly32};
 
 use std::num::nearest_f64_to_f32;
 
-// Whether x is exactly a binary32 (rule F9). A zero is; so is a number whose exponent a binary32 has and whose last 29 digits are 0: nearly all of a mesh are such,
-// and with the rounding alone, which the library works out in whole numbers, writing a mesh takes four times as long.
+// Whether x is exactly a binary32 (rule F9). A zero is; so is a number whose exponent a binary32 has and whose last 29 digits are 0. Nearly all of a mesh are
+// such, and the library rounds in whole numbers: where every number is rounded, writing a mesh takes four times as long.
 pub fn is_single(x: f64) -> bool
     ensures { result ≡ exactly32 x }
 {
@@ -27,7 +27,8 @@ fn short(size: u64) -> bool
     size % 0x2000_0000 == 0 && size >= 0x3810_0000_0000_0000 && size < 0x47f0_0000_0000_0000
 }
 
-// Whether the nearest binary32, widened, is x, bit for bit.
+// Whether the nearest binary32, widened, is x, bit for bit. Apart, so that `is_single` is small enough to be inlined.
+#[inline(never)]
 fn stays(x: f64) -> bool
     requires { NotNan x }
     ensures { result ≡ exactly32 x }
