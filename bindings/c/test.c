@@ -2,6 +2,7 @@
  * call that has any, and what stays as it was (9). Prints what differs; exits 1. */
 #include "pigeonmast.h"
 #include <stdio.h>
+#include <string.h>
 
 static int differ;
 
@@ -93,6 +94,9 @@ int main(void)
     ANSWERS(pigeonmast_root(1 / 0.0), 1 / 0.0);
     ANSWERS(pigeonmast_root(5e-324), 0x1p-537);
     ANSWERS(pigeonmast_root(-1) != pigeonmast_root(-1), 1);
+    const double none = pigeonmast_root(-1); /* the NaN of rule F7 */
+    memcpy(told, &none, sizeof none);
+    HOLDS(told, 0x7ff8000000000000);
     pigeonmast_new(mesh + 12, made);
     HOLDS(made, 16, 0, 0, 19, 0, 0, 16, 3, 0, 0, 0, 1);
     const double line[9] = {0, 0, 0, 1, 1, 1, 2, 2, 2};

@@ -91,7 +91,7 @@ fn make(
         lent::DEEPEST,
     ) else {
         index.fill(0);
-        boxes.fill(0.0);
+        start::clear_floats(boxes);
         links.fill(0);
         return Err(Refused {
             reason: Reason::Deep,

@@ -24,7 +24,7 @@ pub fn count_up(index: &mut [u32])
     }
 }
 
-// Zeros throughout: the slice's `fill`, kept as a call since docs/PROMISES.md names its theorem.
+// Zeros throughout: what is left in numbers after refusal 6, here and in a street's proxies.
 pub fn clear_floats(s: &mut [f64])
     ensures { s.new ≡ replicate (length s.old) nought }
 {

@@ -10,7 +10,8 @@ pub mod Pick
 mod Absolute
 pub mod Total
 mod Patterns
-pub mod SingleRounded
+mod SingleForms
+pub mod SingleExact
 mod RootWhole
 mod RootScaled
 mod RootRead

@@ -2,19 +2,23 @@
 -- on the root's side of every even number, and so of every middle of two numbers of the format. By the root's parts (proofs/RootNearest.antt) both are q * 2^h units. Assumes nothing.
 use mathlib.Core.Path.{◌≡◌, refl, sym, ap, ◌∙◌, subst}
 use Prim.Native.Nat.{ℕ, zero, suc, ◌+◌, ◌-◌, ◌*◌, ◌/◌, ◌%◌, ◌^◌, ◌≤◌, ◌<◌, compare, Ordering}
-use native.Mathlib.Nat.{le_antisymm, le_of_suc-le-suc, lt_of_not-le, lt_irrefl, mul-le-mul, mul-le-mul_right, div-add-mod', mul-div_cancel, mul-pos, le-div_iff_mul-le, div-lt_iff_lt-mul, mul-lt-mul_of_pos_right, two-pow-succ, zero-lt-suc}
+use native.Mathlib.Nat.{le_antisymm, le_of_suc-le-suc, lt_of_not-le, lt_irrefl, mul-le-mul, mul-le-mul_right, div-add-mod', mul-div_cancel, mul-pos, le-div_iff_mul-le, div-lt_iff_lt-mul, mul-lt-mul_of_pos_right, two-pow-succ, zero-lt-suc, zero-mul}
 use native.Mathlib.Omega.{arith}
 use mathlib.Core.Bool.{Bool, true, false, not, cond}
 use lib.IntN.{ℤ, pos, negsuc}
-use lib.Dec.{T, eqb, is_le, compare_is_eq, leb→le, nleb→lt, eqb→eq, lt→ltb}
+use lib.Dec.{T, ltb, eqb, is_le, compare_is_eq, leb→le, nleb→lt, eqb→eq, lt→ltb}
 use lib.Pow.{pow-add, pow_pos}
-use lib.Ieee.{Float, nan, inf, fin, binary64, up, down, fits, size, nearest, units, round, root_below, root_twice, sqrt}
+use lib.Ieee.{Float, nan, inf, fin, binary64, up, down, fits, size, nearest, units, round, root_below, root_twice, sqrt, lt, is_nan, of_bits}
 use lib.Ieee.Fits.{down_pos, round_is}
 use lib.Ieee.Nearest.{closest}
 use lib.Ieee.Root.{Root, whole_part}
 use lib.Ieee.Positive.{positive}
-use borrow.Author.Tests.{eqb-true}
+use borrow.Author.Tests.{eqb-true, le-ltb}
+use Rattle.float.specs.Number.{nought}
 use Rattle.float.specs.Root.{in_units, root}
+use Rattle.float.proofs.Order.{clash}
+use Rattle.float.proofs.Numbers.{nought_is}
+use Rattle.float.proofs.Patterns.{is_nan_lem}
 use Rattle.float.proofs.RootWhole.{Near}
 use Rattle.float.proofs.RootScaled.{size_is}
 use Rattle.float.proofs.RootRead.{units_of}
@@ -195,3 +199,22 @@ sqrt_is (inf false) f = refl
 sqrt_is (fin s zero e) f = plain_zero s e f
 sqrt_is (fin true (suc m) e) f = refl
 sqrt_is (fin false (suc m) e) f = above_zero m e f
+
+-- ---- what has no root: below zero, and a NaN
+negative : (x : Float) → lt x (fin false 0 (pos 0)) ≡ true → nan ≡ root x
+unfolding lt root
+negative nan p = refl
+negative (inf true) p = refl
+negative (inf false) p = clash false p refl
+negative (fin true zero e) p = clash (ltb 0 (0 * up e * 1 + 0 * 1 * down e)) p (le-ltb 0 (0 * up e * 1 + 0 * 1 * down e) (omega (arith, zero-mul (up e), zero-mul (down e))))
+negative (fin false zero e) p = clash (ltb (0 * up e * 1) (0 * 1 * down e)) p (le-ltb (0 * up e * 1) (0 * 1 * down e) (omega (arith, zero-mul (down e))))
+negative (fin true (suc m) e) p = refl
+negative (fin false (suc m) e) p = clash (ltb (suc m * up e * 1) (0 * 1 * down e)) p (le-ltb (suc m * up e * 1) (0 * 1 * down e) (omega (arith, zero-mul (down e))))
+
+pub below_zero : (x : Float) → lt x nought ≡ true → of_bits binary64 0x7ff8_0000_0000_0000 ≡ root x
+unfolding of_bits
+below_zero x p = negative x (ap (λ (z : Float). lt x z) (sym nought_is) ∙ p)
+
+pub of_nan : (x : Float) → is_nan x ≡ true → of_bits binary64 0x7ff8_0000_0000_0000 ≡ root x
+unfolding of_bits root
+of_nan x p = rw (is_nan_lem x p)

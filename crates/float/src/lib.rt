@@ -18,7 +18,7 @@ pub use single::is_single;
 // 2^40, the limit of vertices, of a ray's origin and of boxes.
 pub const TWO_TO_40: f64 = 1099511627776.0;
 
-// +inf: the library's constant, kept as a call since it was a public one and docs/DECISIONS.md names it.
+// +inf: the library's constant. A walk asks it by this call; docs/DECISIONS.md names it.
 pub fn infinity() -> f64
     ensures { result ≡ infinity }
 {
@@ -115,11 +115,14 @@ pub fn from_bits(pattern: u64) -> f64
     f64::from_bits(pattern)
 }
 
-// The square root of x (rule F8). Of a zero and of +inf it is x itself; of a NaN, and of whatever is below zero, a NaN.
-// It is the hardware's operation, proved equal to the rule on every f64 (proofs/RootRounded.antt: `sqrt_is`).
-#[tactic(auto, using(crate::proofs::RootRounded::sqrt_is))]
+// The square root of x (rule F8). Of a zero and of +inf it is x itself; of a NaN, and of whatever is below zero, the NaN as rule F7 writes it: the
+// hardware's would have another pattern. Else it is the hardware's operation, proved equal to the rule on every f64 (proofs/RootRounded.antt: `sqrt_is`).
+#[tactic(auto, using(crate::proofs::RootRounded::sqrt_is, crate::proofs::RootRounded::below_zero, crate::proofs::RootRounded::of_nan))]
 pub fn root(x: f64) -> f64
     ensures { result ≡ root x }
 {
+    if x < 0.0 || x.is_nan() {
+        return f64::NAN;
+    }
     x.sqrt()
 }

@@ -94,7 +94,7 @@ fn raise(
     proxies::write(matrices, root, proxies, m);
     let built = builder::build(&proxies[0..m * 12], index, boxes, links);
     if built.is_err() {
-        proxies.fill(0.0);
+        builder::clear_floats(proxies);
     }
     built
 }

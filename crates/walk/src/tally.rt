@@ -26,7 +26,7 @@ pub fn replaces(best: Option<Met>, number: u32, t: f64) -> bool
     ensures { result ≡ replaces best number t }
 {
     match best {
-        None => t < f64::INFINITY,
+        None => t < float::infinity(),
         Some(met) => {
             if number < met.number {
                 t <= met.t

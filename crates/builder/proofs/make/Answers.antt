@@ -37,10 +37,10 @@ shape_of-index-in_default c =
     c.fill.auto.self ∙ twice_length a.index.now u.new.index a.n c.requires.n_le_most_triangles.1 u.auto.index d.new.index d.auto.index
 
 pub shape_of-boxes-in_default : goal.shape_of-boxes-in_default
-shape_of-boxes-in_default c = c.fill-in_default.auto.self ∙ c.subdivide.auto.boxes
+shape_of-boxes-in_default c = c.clear_floats.auto.s ∙ c.subdivide.auto.boxes
 
 pub shape_of-links-in_default : goal.shape_of-links-in_default
-shape_of-links-in_default c = c.fill-in_default-2.auto.self ∙ c.subdivide.auto.links
+shape_of-links-in_default c = c.fill-in_default.auto.self ∙ c.subdivide.auto.links
 
 pub returns-in_default : goal.returns-in_default
 unfolding reply
@@ -52,11 +52,11 @@ returns-in_default c =
     let lent = lent_again a.index.now u.new.index a.n le u.auto.index ∙ u.ensures ∙ ap up_to (front_length_is a.index.now u.new.index a.n le u.auto.index) in
     let laid = subst (λ (z : List ℕ). Divided (grow a.triangles.now deepest 0 z) 0 1 a.boxes.now a.links.now d.result d.new.index d.new.boxes d.new.links) lent d.ensures in
     let x = c.fill in
-    let y = c.fill-in_default in
-    let z = c.fill-in_default-2 in
-    made_deep a.n (grow a.triangles.now deepest 0 (up_to a.n)) d.result a.index.now d.new.index x.new.self a.boxes.now d.new.boxes y.new.self a.links.now d.new.links z.new.self laid c.in_default.is
+    let y = c.clear_floats in
+    let z = c.fill-in_default in
+    made_deep a.n (grow a.triangles.now deepest 0 (up_to a.n)) d.result a.index.now d.new.index x.new.self a.boxes.now d.new.boxes y.new.s a.links.now d.new.links z.new.self laid c.in_default.is
     (x.ensures.after (λ v e. e) ∙ ap (λ (k : ℕ). replicate {A = ℕ} k 0) (twice_length a.index.now u.new.index a.n le u.auto.index d.new.index d.auto.index))
-    (y.ensures.after (λ v e. e) ∙ ap (λ (k : ℕ). replicate {A = Float} k nought) d.auto.boxes)
+    (y.ensures ∙ ap (λ (k : ℕ). replicate {A = Float} k nought) d.auto.boxes)
     (z.ensures.after (λ v e. e) ∙ ap (λ (k : ℕ). replicate {A = ℕ} k 0) d.auto.links)
 
 pub shape_of-index : goal.shape_of-index

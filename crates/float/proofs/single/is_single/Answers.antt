@@ -1,8 +1,8 @@
--- A NaN is none; a zero, and what has few digits, is one; any other number is told by rounding it. Assumes nothing.
+-- A NaN is none; a zero, and what has few digits, is one; any other number is told by the one binary32 that it can be. Assumes nothing.
 use mathlib.Core.Path.{sym}
 use Rattle.float.proofs.Cases.{true_is}
 use Rattle.float.proofs.Patterns.{no_nan}
-use Rattle.float.proofs.SingleRounded.{nan_inexact, zero_exact, short_exact}
+use Rattle.float.proofs.SingleExact.{nan_inexact, zero_exact, short_exact}
 use Rattle.float.proofs.single.is_single.Goals as goal
 use Rattle.float.proofs.single.is_single.Goals.{then-size-eq0-via-then-size-eq0, then-size-eq0-via-else-size-eq0+then-short}
 
